@@ -1,0 +1,46 @@
+-- Classes that are made of others, tested in the code's order.
+use Prim.Native.Nat.{ℕ}
+use mathlib.Core.Path.{_≡_, refl, _∙_}
+use mathlib.Core.Bool.{Bool, true, false, _||_}
+use lib.Dec.{eqb}
+use Rattle.text.specs.Bytes.{isDigit, isSmall, isCapital, startsPart, inAccount, inCurrency, inTag, inLink}
+
+-- the answer of `if x { return true; } y`, where r is what the test gave
+pub or-yes : (r x y : Bool) → r ≡ x → r ≡ true → true ≡ (x || y)
+or-yes r x y e t = cc
+
+pub or-no : (r x y a : Bool) → r ≡ x → r ≡ false → a ≡ y → a ≡ (x || y)
+or-no r x y a e t u = cc
+
+-- the classes as the code has them
+pub as-start : (b : ℕ) (r : Bool) → r ≡ (isCapital b || isDigit b) → r ≡ startsPart b
+unfolding startsPart
+as-start b r e = e
+
+pub as-account : (b : ℕ) (r : Bool) → r ≡ (isSmall b || (startsPart b || eqb b 45)) → r ≡ inAccount b
+unfolding startsPart inAccount
+as-account b r e = e ∙ turned (isCapital b) (isSmall b) (isDigit b) (eqb b 45)
+  where
+    turned : (c s d m : Bool) → (s || ((c || d) || m)) ≡ (c || s || d || m)
+    turned true true d m = refl
+    turned true false d m = refl
+    turned false true d m = refl
+    turned false false d m = refl
+
+pub as-currency : (b : ℕ) (r : Bool) → r ≡ (startsPart b || (eqb b 45 || eqb b 95 || eqb b 46 || eqb b 39)) → r ≡ inCurrency b
+unfolding startsPart inCurrency
+as-currency b r e = e ∙ grouped (isCapital b || isDigit b) (eqb b 45) (eqb b 95) (eqb b 46) (eqb b 39)
+  where
+    grouped : (c m l p a : Bool) → (c || (m || l || p || a)) ≡ (c || m || l || p || a)
+    grouped true m l p a = refl
+    grouped false m l p a = refl
+
+pub as-tag : (b : ℕ) (r : Bool) → r ≡ (inAccount b || eqb b 95) → r ≡ inTag b
+unfolding inAccount inTag
+as-tag b r e = e
+
+pub as-link : (b : ℕ) (r : Bool) → r ≡ (inTag b || eqb b 46) → r ≡ inLink b
+unfolding inLink
+as-link b r e = e
+
+pub ruleset class-laws = (or-yes, or-no, as-start, as-account, as-currency, as-tag, as-link)

@@ -1,0 +1,51 @@
+-- The answers at bytes that a ledger may hold, each from what the code knows where it gives it.
+use Prim.Native.Nat.{ℕ, _+_, _≤_, _<_}
+use native.Mathlib.Omega.{arith}
+use mathlib.Core.Path.{_≡_, sym, _∙_}
+use mathlib.Core.Bool.{Bool, true, false}
+use mathlib.Core.List.{List}
+use borrow.Author.Tests.{ne-eqb, le-leb, lt-leb}
+use lib.Dec.{leb, eqb}
+use lib.ListN.{length, drop, getD, drop-of-length-le}
+use Rattle.text.specs.Permitted.{permitted, clean}
+use Rattle.text.proofs.Steps.{drop-step, head-drop}
+
+-- a byte b before the byte n
+module _ (b n : ℕ) where
+  pub shown : 32 ≤ b → leb b 126 ≡ permitted b n
+  unfolding permitted
+  shown h = rw (le-leb 32 b h)
+
+  pub feed : b ≡ 10 → true ≡ permitted b n
+  unfolding permitted
+  feed e = rw e
+
+  pub tab : b ≡ 9 → true ≡ permitted b n
+  unfolding permitted
+  tab e = rw e
+
+  pub return : (r : ℕ) → b ≡ 13 → r ≡ n → eqb r 10 ≡ permitted b n
+  unfolding permitted
+  return r e u = rw (e, u)
+
+  pub barred : b < 32 → (b ≡ 10 → ⊥) → (b ≡ 9 → ⊥) → (b ≡ 13 → ⊥) → false ≡ permitted b n
+  unfolding permitted
+  barred h e f g = rw (lt-leb 32 b h, ne-eqb _ _ f, ne-eqb _ _ e, ne-eqb _ _ g)
+
+-- The loop over a text: the bytes before i may stand, and those that may in what is left make up the answer a; r is what the code's test gave.
+module _ (a : ℕ) (s : List ℕ) (i : ℕ) (v : i + clean (drop i s) ≡ a) where
+  pub clean-on : (r : Bool) → i < length s → r ≡ permitted (getD s i 0) (getD s (i + 1) 0) → r ≡ true → i + 1 + clean (drop (i + 1) s) ≡ a
+  unfolding clean
+  clean-on r h e t = omega (arith, rw (drop-step s i h, head-drop s (i + 1), sym e ∙ t) at v)
+
+  pub clean-stop : (r : Bool) → i < length s → r ≡ permitted (getD s i 0) (getD s (i + 1) 0) → r ≡ false → i ≡ a
+  unfolding clean
+  clean-stop r h e t = omega (arith, rw (drop-step s i h, head-drop s (i + 1), sym e ∙ t) at v)
+
+  pub clean-end : length s ≤ i → i ≡ a
+  unfolding clean
+  clean-end h = omega (arith, rw (drop-of-length-le s h) at v)
+
+pub ruleset stand-laws = (shown, feed, tab, return, barred)
+
+pub ruleset clean-laws = (clean-on, clean-stop, clean-end)

@@ -1,0 +1,105 @@
+use Rattle.text.proofs.RunLaws.{name-laws}
+use borrow.Author.Needs.{needs}
+use Rattle.text.proofs.run.in_class.Statement.{statement}
+use Rattle.text.proofs.run.in_class.Tie as tie
+
+enum-told : tie.Need-enum-told
+enum-told c = search (needs, name-laws)
+
+is-blank-requires : tie.Need-is-blank-requires
+is-blank-requires c κs = search (needs, name-laws)
+
+enum-told-2 : tie.Need-enum-told-2
+enum-told-2 c = search (needs, name-laws)
+
+is-space-requires : tie.Need-is-space-requires
+is-space-requires c κs = search (needs, name-laws)
+
+enum-told-3 : tie.Need-enum-told-3
+enum-told-3 c = search (needs, name-laws)
+
+in-comment-requires : tie.Need-in-comment-requires
+in-comment-requires c κs = search (needs, name-laws)
+
+enum-told-4 : tie.Need-enum-told-4
+enum-told-4 c = search (needs, name-laws)
+
+is-ordinary-requires : tie.Need-is-ordinary-requires
+is-ordinary-requires c κs = search (needs, name-laws)
+
+enum-told-5 : tie.Need-enum-told-5
+enum-told-5 c = search (needs, name-laws)
+
+in-account-requires : tie.Need-in-account-requires
+in-account-requires c κs = search (needs, name-laws)
+
+enum-told-6 : tie.Need-enum-told-6
+enum-told-6 c = search (needs, name-laws)
+
+in-currency-requires : tie.Need-in-currency-requires
+in-currency-requires c κs = search (needs, name-laws)
+
+enum-told-7 : tie.Need-enum-told-7
+enum-told-7 c = search (needs, name-laws)
+
+in-tag-requires : tie.Need-in-tag-requires
+in-tag-requires c κs = search (needs, name-laws)
+
+enum-told-8 : tie.Need-enum-told-8
+enum-told-8 c = search (needs, name-laws)
+
+in-link-requires : tie.Need-in-link-requires
+in-link-requires c κs = search (needs, name-laws)
+
+returns : tie.Need-returns
+returns c = search (needs, name-laws)
+
+returns-2 : tie.Need-returns-2
+returns-2 c = search (needs, name-laws)
+
+returns-3 : tie.Need-returns-3
+returns-3 c = search (needs, name-laws)
+
+returns-4 : tie.Need-returns-4
+returns-4 c = search (needs, name-laws)
+
+returns-5 : tie.Need-returns-5
+returns-5 c = search (needs, name-laws)
+
+returns-6 : tie.Need-returns-6
+returns-6 c = search (needs, name-laws)
+
+returns-7 : tie.Need-returns-7
+returns-7 c = search (needs, name-laws)
+
+returns-8 : tie.Need-returns-8
+returns-8 c = search (needs, name-laws)
+
+pub in-class-spec : {M : Type 1} → statement M
+in-class-spec =
+    tie.close
+    (tie.spec
+    enum-told
+    is-blank-requires
+    enum-told-2
+    is-space-requires
+    enum-told-3
+    in-comment-requires
+    enum-told-4
+    is-ordinary-requires
+    enum-told-5
+    in-account-requires
+    enum-told-6
+    in-currency-requires
+    enum-told-7
+    in-tag-requires
+    enum-told-8
+    in-link-requires
+    returns
+    returns-2
+    returns-3
+    returns-4
+    returns-5
+    returns-6
+    returns-7
+    returns-8)

@@ -1,0 +1,67 @@
+-- The tokens as readers that answer as every rule does, at a place of a text.
+use Prim.Native.Nat.{ℕ, _+_}
+use mathlib.Core.Bool.{cond}
+use mathlib.Core.List.{List, []}
+use lib.Dec.{eqb}
+use lib.ListN.{getD}
+use Rattle.text.specs.Answer.{Ans, To, Miss, Hard}
+use Rattle.text.specs.Lines.{gapAt, lineEndAt, emptyAt}
+use Rattle.text.specs.Dates.{dateAt}
+use Rattle.text.specs.Strings.{stringAt}
+use Rattle.text.specs.Accounts.{accountAt}
+use Rattle.text.specs.Currencies.{currencyAt}
+use Rattle.text.specs.Words.{wordAt}
+use Rattle.text.specs.Tags.{tagAt, linkAt}
+use Rattle.text.specs.declared.Read.{Read}
+use Rattle.text.specs.declared.account.AccountRead.{AccountRead}
+use Rattle.text.specs.declared.date.Dated.{Dated}
+
+-- a token makes no rows
+unfoldable pub token : {A : Type 0} → Read → Ans (List A)
+token (Read.To j) = To j []
+token Read.Miss = Miss
+
+-- an account that starts at a place: its hard miss is refusal 4
+unfoldable pub named : {A : Type 0} → ℕ → AccountRead → Ans (List A)
+named at (AccountRead.To j) = To j []
+named at AccountRead.Miss = Miss
+named at AccountRead.Hard = Hard 4 at
+
+unfoldable pub dated : Dated → Ans ℕ
+dated (Dated.On j d) = To j d
+dated Dated.Miss = Miss
+
+module _ {A : Type 0} (s : List ℕ) (at : ℕ) where
+  unfoldable pub gap : Ans (List A)
+  gap = token (gapAt s at)
+
+  unfoldable pub lineEnd : Ans (List A)
+  lineEnd = token (lineEndAt s at)
+
+  unfoldable pub emptyLine : Ans (List A)
+  emptyLine = token (emptyAt s at)
+
+  unfoldable pub string : Ans (List A)
+  string = token (stringAt s at)
+
+  unfoldable pub account : Ans (List A)
+  account = named at (accountAt s at)
+
+  unfoldable pub currency : Ans (List A)
+  currency = token (currencyAt s at)
+
+  unfoldable pub tag : Ans (List A)
+  tag = token (tagAt s at)
+
+  unfoldable pub link : Ans (List A)
+  link = token (linkAt s at)
+
+unfoldable pub date : List ℕ → ℕ → Ans ℕ
+date s at = dated (dateAt s at)
+
+unfoldable pub word : {A : Type 0} → List ℕ → List ℕ → ℕ → Ans (List A)
+word w s at = token (wordAt w s at)
+
+-- one byte
+unfoldable pub byte : {A : Type 0} → ℕ → List ℕ → ℕ → Ans (List A)
+byte b s at = cond (eqb (getD s at 0) b) (To (at + 1) []) Miss

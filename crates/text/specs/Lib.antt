@@ -1,0 +1,12 @@
+pub mod Bytes
+pub mod Run
+pub mod Permitted
+pub mod Lines
+pub mod Dates
+pub mod Strings
+pub mod Accounts
+pub mod Currencies
+pub mod Words
+pub mod Tags
+pub mod Answer
+pub mod Leaves

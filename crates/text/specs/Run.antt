@@ -1,0 +1,32 @@
+-- Longest runs.
+use Prim.Native.Nat.{ℕ, _+_}
+use mathlib.Core.Bool.{Bool, cond}
+use mathlib.Core.List.{List, [], _∷_}
+use lib.ListN.{drop}
+use Rattle.text.specs.Bytes.{isBlank, isSpace, inComment, isOrdinary, inAccount, inCurrency, inTag, inLink}
+use Rattle.text.specs.declared.run.Class.{Class}
+use Rattle.text.specs.declared.run.Class.the-variants.{Blank, Space, Comment, Ordinary, Account, Currency, Tag, Link}
+
+-- the end of the longest run of bytes for which p holds, in a text that starts at place i
+unfoldable pub runFrom : (ℕ → Bool) → List ℕ → ℕ → ℕ
+runFrom p [] i = i
+runFrom p (b ∷ s) i = cond (p b) (runFrom p s (i + 1)) i
+
+-- the same from place at of a text on
+unfoldable pub runTo : (ℕ → Bool) → List ℕ → ℕ → ℕ
+runTo p s at = runFrom p (drop at s) at
+
+-- past the blanks
+abbrev pub blanks : List ℕ → ℕ → ℕ
+blanks s at = runTo isBlank s at
+
+-- the classes by the names that the code has for them
+abbrev pub inClass : Class → ℕ → Bool
+inClass Blank = isBlank
+inClass Space = isSpace
+inClass Comment = inComment
+inClass Ordinary = isOrdinary
+inClass Account = inAccount
+inClass Currency = inCurrency
+inClass Tag = inTag
+inClass Link = inLink

@@ -1,0 +1,118 @@
+// Byte classes. The bytes that are met most often are tested first.
+ghost use mathlib.Core.Path.{_≡_};
+ghost use lib.ListN.{getD};
+ghost use Rattle.text.specs.Bytes.{isBlank, isSpace, isDigit, isSmall, isCapital, inComment, isOrdinary, isEscaped, startsPart, inAccount, inCurrency, inTag, inLink};
+
+// The byte at a place, or 0 past the end.
+pub fn peek(s: &[u8], at: usize) -> u8
+    ensures { λ r. ⌜ r ≡ getD (now (s .entry)) at 0 ⌝ }
+{
+    if at < s.len() { s[at] } else { 0 }
+}
+
+pub fn is_blank(b: u8) -> bool
+    ensures { λ r. ⌜ r ≡ isBlank b ⌝ }
+{
+    if b == b' ' {
+        return true;
+    }
+    b == b'\t'
+}
+
+pub fn is_space(b: u8) -> bool
+    ensures { λ r. ⌜ r ≡ isSpace b ⌝ }
+{
+    b == b' '
+}
+
+pub fn is_digit(b: u8) -> bool
+    ensures { λ r. ⌜ r ≡ isDigit b ⌝ }
+{
+    (b'0' <= b) & (b <= b'9')
+}
+
+pub fn is_small(b: u8) -> bool
+    ensures { λ r. ⌜ r ≡ isSmall b ⌝ }
+{
+    (b'a' <= b) & (b <= b'z')
+}
+
+pub fn is_capital(b: u8) -> bool
+    ensures { λ r. ⌜ r ≡ isCapital b ⌝ }
+{
+    (b'A' <= b) & (b <= b'Z')
+}
+
+// Rule 2.
+pub fn in_comment(b: u8) -> bool
+    ensures { λ r. ⌜ r ≡ inComment b ⌝ }
+{
+    (b != b'\n') & (b != b'\r')
+}
+
+// Rule 5.
+pub fn is_ordinary(b: u8) -> bool
+    ensures { λ r. ⌜ r ≡ isOrdinary b ⌝ }
+{
+    (b != b'"') & (b != b'\\')
+}
+
+// Rule 5: what may stand after a string's backslash.
+pub fn is_escaped(b: u8) -> bool
+    ensures { λ r. ⌜ r ≡ isEscaped b ⌝ }
+{
+    (b == b'"') | (b == b'\\')
+}
+
+// Rules 6 and 7: what a part of an account starts with, and a currency ends with.
+pub fn starts_part(b: u8) -> bool
+    ensures { λ r. ⌜ r ≡ startsPart b ⌝ }
+{
+    if is_capital(b) {
+        return true;
+    }
+    is_digit(b)
+}
+
+// Rule 6.
+pub fn in_account(b: u8) -> bool
+    ensures { λ r. ⌜ r ≡ inAccount b ⌝ }
+{
+    if is_small(b) {
+        return true;
+    }
+    if starts_part(b) {
+        return true;
+    }
+    b == b'-'
+}
+
+// Rule 7.
+pub fn in_currency(b: u8) -> bool
+    ensures { λ r. ⌜ r ≡ inCurrency b ⌝ }
+{
+    if starts_part(b) {
+        return true;
+    }
+    (b == b'-') | (b == b'_') | (b == b'.') | (b == b'\'')
+}
+
+// Rules 14 and 16.
+pub fn in_tag(b: u8) -> bool
+    ensures { λ r. ⌜ r ≡ inTag b ⌝ }
+{
+    if in_account(b) {
+        return true;
+    }
+    b == b'_'
+}
+
+// Rule 14.
+pub fn in_link(b: u8) -> bool
+    ensures { λ r. ⌜ r ≡ inLink b ⌝ }
+{
+    if in_tag(b) {
+        return true;
+    }
+    b == b'.'
+}

@@ -1,0 +1,48 @@
+// Longest runs of bytes of a class.
+use crate::bytes;
+ghost use mathlib.Core.Path.{_≡_};
+ghost use Prim.Native.Nat.{_≤_};
+ghost use Rattle.text.specs.Run.{runTo, inClass};
+
+// The classes of which a rule takes the longest run.
+pub enum Class {
+    Blank,
+    Space,
+    Comment,
+    Ordinary,
+    Account,
+    Currency,
+    Tag,
+    Link,
+}
+
+pub fn in_class(k: Class, b: u8) -> bool
+    ensures { λ r. ⌜ r ≡ inClass k b ⌝ }
+{
+    match k {
+        Class::Blank => bytes::is_blank(b),
+        Class::Space => bytes::is_space(b),
+        Class::Comment => bytes::in_comment(b),
+        Class::Ordinary => bytes::is_ordinary(b),
+        Class::Account => bytes::in_account(b),
+        Class::Currency => bytes::in_currency(b),
+        Class::Tag => bytes::in_tag(b),
+        Class::Link => bytes::in_link(b),
+    }
+}
+
+// Where the longest run of bytes of a class ends, from a place on.
+pub fn run(s: &[u8], at: usize, k: Class) -> usize
+    ensures { λ r. ⌜ r ≡ runTo (inClass k) (now (s .entry)) at ⌝ }
+    ensures { λ r. ⌜ at ≤ r ⌝ }
+{
+    let mut i = at;
+    while i < s.len() {
+        if in_class(k, s[i]) {
+            i += 1;
+        } else {
+            return i;
+        }
+    }
+    i
+}
