@@ -10,3 +10,4 @@ pub mod Words
 pub mod Tags
 pub mod Answer
 pub mod Leaves
+pub mod Examples

@@ -1,0 +1,11 @@
+pub mod Digits
+pub mod ByteSteps
+pub mod Literals
+pub mod LiteralLaws
+pub mod ValueLaws
+pub mod Forms
+pub mod ExpressionEnds
+pub mod ExpressionSame
+pub mod Refusals
+pub mod AmountForms
+pub mod AmountLaws

@@ -1,0 +1,91 @@
+-- An expression's only hard miss is refusal 3.
+use Prim.Native.Nat.{ℕ, zero, suc, _+_}
+use mathlib.Core.Path.{_≡_, refl}
+use mathlib.Core.Bool.{Bool, true, false, cond}
+use mathlib.Core.List.{List}
+use lib.Dec.{eqb}
+use lib.ListN.{getD, length}
+use Rattle.decimal.specs.declared.Value.{Value}
+use Rattle.text.specs.Run.{blanks}
+use Rattle.text.specs.Answer.{Ans, To, Miss, Hard, _then_, _else_}
+use Rattle.amount.specs.Literal.{plain, literalAs, unsigned, literal}
+use Rattle.amount.specs.Expression.{combined, isPlus, isTimes, goesOn, chain, atom, products, sums, negation, inGroup, closed, group, groups, within, expression}
+
+abbrev pub Three : Ans Value → Type 0
+Three (To e v) = Unit {0}
+Three Miss = Unit {0}
+Three (Hard k p) = k ≡ 3
+
+cond-three : (b : Bool) (x y : Ans Value) → Three x → Three y → Three (cond b x y)
+cond-three true x y p q = p
+cond-three false x y p q = q
+
+else-three : (a b : Ans Value) → Three a → Three b → Three (a else b)
+unfolding _else_
+else-three (To e v) b p q = tt
+else-three Miss b p q = q
+else-three (Hard k i) b p q = p
+
+then-three : (a : Ans Value) (f : ℕ → Value → Ans Value) → Three a → ((e : ℕ) (v : Value) → Three (f e v)) → Three (a then f)
+unfolding _then_
+then-three (To e v) f p q = q e v
+then-three Miss f p q = tt
+then-three (Hard k i) f p q = p
+
+module _ (s : List ℕ) where
+  unsigned-three : (m : Bool) (b : ℕ) → Three (unsigned m s b)
+  unfolding unsigned literalAs
+  unsigned-three m b = cond-three (plain _) (To _ _) Miss tt tt
+
+  literal-three : (at : ℕ) → Three (literal s at)
+  unfolding literal
+  literal-three at = cond-three (eqb (getD s at 0) 45) (unsigned true s (at + 1)) (unsigned false s at) (unsigned-three true (at + 1)) (unsigned-three false at)
+
+  module _ (op : ℕ → Bool) (x : ℕ → Ans Value) (X : (i : ℕ) → Three (x i)) where
+    goes-three : (k : ℕ) (v : Value) (e : ℕ) → Three (goesOn op x s k v e)
+    unfolding goesOn
+    goes-three zero v e = tt
+    goes-three (suc k) v e =
+        let i = blanks s e in
+        cond-three (op (getD s i 0)) _ (To e v)
+        (else-three (x (blanks s (i + 1)) then λ f w. goesOn op x s k (combined (getD s i 0) v w) f) (To e v)
+        (then-three (x (blanks s (i + 1))) _ (X (blanks s (i + 1))) (λ f w. goes-three k (combined (getD s i 0) v w) f)) tt)
+        tt
+
+    chain-three : (at : ℕ) → Three (chain op x s at)
+    unfolding chain
+    chain-three at = then-three (x at) _ (X at) (λ e v. goes-three (length s) v e)
+
+  module _ (g : ℕ → Ans Value) (G : (i : ℕ) → Three (g i)) where
+    atom-three : (at : ℕ) → Three (atom g s at)
+    unfolding atom
+    atom-three at = else-three (literal s at) (g at) (literal-three at) (G at)
+
+    products-three : (at : ℕ) → Three (products g s at)
+    unfolding products
+    products-three = chain-three isTimes (atom g s) atom-three
+
+    sums-three : (at : ℕ) → Three (sums g s at)
+    unfolding sums
+    sums-three = chain-three isPlus (products g s) products-three
+
+    negation-three : (at : ℕ) → Three (negation g s at)
+    unfolding negation
+    negation-three at = cond-three (eqb (getD s at 0) 45) _ Miss (then-three (g (blanks s (at + 1))) _ (G (blanks s (at + 1))) (λ e v. tt)) tt
+
+    inGroup-three : (at : ℕ) → Three (inGroup g s at)
+    unfolding inGroup
+    inGroup-three at = else-three (negation g s at) (sums g s at) (negation-three at) (sums-three at)
+
+  group-three : (n at : ℕ) → Three (group n s at)
+  unfolding group closed
+  group-three zero at = cond-three (eqb (getD s at 0) 40) (Hard 3 at) Miss refl tt
+  group-three (suc n) at =
+      cond-three (eqb (getD s at 0) 40) _ Miss
+      (then-three (inGroup (group n s) s (blanks s (at + 1))) (closed s) (inGroup-three (group n s) (group-three n) (blanks s (at + 1)))
+      (λ e v. cond-three (eqb (getD s (blanks s e) 0) 41) (To (blanks s e + 1) v) Miss tt tt))
+      tt
+
+  pub expression-three : (at : ℕ) → Three (expression s at)
+  unfolding expression within
+  expression-three = inGroup-three (group groups s) (group-three groups)

@@ -1,0 +1,91 @@
+-- Rule 8. Expression: `-`, blanks, group (a negation, ending there), else a sum of products of atoms, left to right, blanks around
+-- operators. Atom: literal or group. Group: `(`, blanks, expression, blanks, `)`. An expression may hold a group and a group holds an
+-- expression. A reading gives its end with its value or the value's refusal.
+use Prim.Native.Nat.{ℕ, zero, suc, _+_}
+use mathlib.Core.Bool.{Bool, true, false, cond, _||_}
+use mathlib.Core.List.{List}
+use lib.Dec.{eqb}
+use lib.ListN.{getD, length}
+use Rattle.decimal.specs.Exact.{negated, sum, difference, product, quotient}
+use Rattle.decimal.specs.declared.Decimal.{Decimal}
+use Rattle.decimal.specs.declared.Value.{Value}
+use Rattle.decimal.specs.declared.Value.the-variants.{Known, Refused}
+use Rattle.text.specs.Run.{blanks}
+use Rattle.text.specs.Answer.{Ans, To, Miss, Hard, _then_, _else_}
+use Rattle.amount.specs.Literal.{literal}
+
+-- how many groups may be open around a place: refusal 3 where one opens inside so many
+abbrev pub groups : ℕ
+groups = 32
+
+-- ---- values: a refusal is carried; the left operand's goes first, then the right one's, then the operation's own
+
+unfoldable pub negatedValue : Value → Value
+negatedValue (Known a) = negated a
+negatedValue (Refused n) = Refused n
+
+-- by the operator's byte: + - * /
+unfoldable pub operated : ℕ → Decimal → Decimal → Value
+operated op a b =
+    cond (eqb op 43) (sum a b) (cond (eqb op 45) (difference a b) (cond (eqb op 42) (product a b) (quotient a b)))
+
+unfoldable pub combined : ℕ → Value → Value → Value
+combined op (Refused n) w = Refused n
+combined op (Known a) (Refused n) = Refused n
+combined op (Known a) (Known b) = operated op a b
+
+-- ---- the forms; g reads a group at a place
+
+unfoldable pub isPlus : ℕ → Bool
+isPlus b = eqb b 43 || eqb b 45
+
+unfoldable pub isTimes : ℕ → Bool
+isTimes b = eqb b 42 || eqb b 47
+
+-- operators and operands x that go on from the value v, which ends at e: at most k of them. Where an operand misses, the reading ends
+-- before its operator.
+unfoldable pub goesOn : (ℕ → Bool) → (ℕ → Ans Value) → List ℕ → ℕ → Value → ℕ → Ans Value
+goesOn op x s zero v e = To e v
+goesOn op x s (suc k) v e =
+    let i = blanks s e in
+    let more = (x (blanks s (i + 1)) then λ f w. goesOn op x s k (combined (getD s i 0) v w) f) else To e v in
+    cond (op (getD s i 0)) more (To e v)
+
+-- an operand, and what goes on from it, left to right; each operator has a byte of its own
+unfoldable pub chain : (ℕ → Bool) → (ℕ → Ans Value) → List ℕ → ℕ → Ans Value
+chain op x s at = x at then λ e v. goesOn op x s (length s) v e
+
+unfoldable pub atom : (ℕ → Ans Value) → List ℕ → ℕ → Ans Value
+atom g s at = let group = g at in literal s at else group
+
+unfoldable pub products : (ℕ → Ans Value) → List ℕ → ℕ → Ans Value
+products g s at = chain isTimes (atom g s) s at
+
+unfoldable pub sums : (ℕ → Ans Value) → List ℕ → ℕ → Ans Value
+sums g s at = chain isPlus (products g s) s at
+
+unfoldable pub negation : (ℕ → Ans Value) → List ℕ → ℕ → Ans Value
+negation g s at =
+    let group = g (blanks s (at + 1)) then λ e v. To e (negatedValue v) in
+    cond (eqb (getD s at 0) 45) group Miss
+
+unfoldable pub inGroup : (ℕ → Ans Value) → List ℕ → ℕ → Ans Value
+inGroup g s at = let other = sums g s at in negation g s at else other
+
+-- blanks and `)` after a group's expression
+unfoldable pub closed : List ℕ → ℕ → Value → Ans Value
+closed s e v = cond (eqb (getD s (blanks s e) 0) 41) (To (blanks s e + 1) v) Miss
+
+-- a group where n more may open: refusal 3 at its `(` where none may
+unfoldable pub group : ℕ → List ℕ → ℕ → Ans Value
+group zero s at = cond (eqb (getD s at 0) 40) (Hard 3 at) Miss
+group (suc n) s at =
+    let inner = inGroup (group n s) s (blanks s (at + 1)) then closed s in
+    cond (eqb (getD s at 0) 40) inner Miss
+
+-- an expression where n groups may open one in another
+unfoldable pub within : ℕ → List ℕ → ℕ → Ans Value
+within n s at = inGroup (group n s) s at
+
+unfoldable pub expression : List ℕ → ℕ → Ans Value
+expression s at = within groups s at

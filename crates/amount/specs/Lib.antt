@@ -1,0 +1,6 @@
+pub mod Literal
+pub mod Expression
+pub mod Details
+pub mod Amounts
+pub mod Examples
+pub mod steps

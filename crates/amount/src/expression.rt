@@ -1,0 +1,240 @@
+// Expressions (rule 8): the forms call each other in a cycle, in which the groups that may still open fall.
+use crate::literal;
+use decimal::Decimal;
+use decimal::Value;
+use text::bytes;
+use text::run;
+use text::run::Class;
+ghost use mathlib.Core.Path.{_≡_};
+ghost use lib.ListN.{length};
+ghost use Rattle.text.specs.Answer.{_then_};
+ghost use Rattle.amount.specs.Expression.{negatedValue, operated, combined, isPlus, isTimes, goesOn, atom, products, sums, negation, closed, group, within, expression};
+ghost use Rattle.amount.specs.steps.Answers.{answerOf, negatedAnswer, closedAnswer};
+
+pub enum Answer {
+    // Where it ends, with the value or its refusal.
+    Read(usize, Value),
+    Miss,
+    // A group opens inside as many as may be open: its place.
+    Deep(usize),
+}
+
+// How many groups may be open around a place (refusal 3).
+pub const GROUPS: usize = 32;
+
+fn negated(v: Value) -> Value
+    ensures { λ r. ⌜ r ≡ negatedValue v ⌝ }
+{
+    match v {
+        Value::Known(a) => decimal::neg(a),
+        Value::Refused(n) => Value::Refused(n),
+    }
+}
+
+fn operated_by(op: u8, a: Decimal, b: Decimal) -> Value
+    ensures { λ r. ⌜ r ≡ operated op a b ⌝ }
+{
+    if op == b'+' {
+        return decimal::add(a, b);
+    }
+    if op == b'-' {
+        return decimal::sub(a, b);
+    }
+    if op == b'*' {
+        return decimal::mul(a, b);
+    }
+    decimal::div(a, b)
+}
+
+// The left operand's refusal goes first, then the right one's, then the operation's own.
+fn combine(op: u8, v: Value, w: Value) -> Value
+    ensures { λ r. ⌜ r ≡ combined op v w ⌝ }
+{
+    match v {
+        Value::Known(a) => match w {
+            Value::Known(b) => operated_by(op, a, b),
+            Value::Refused(n) => Value::Refused(n),
+        },
+        Value::Refused(n) => Value::Refused(n),
+    }
+}
+
+fn is_plus(b: u8) -> bool
+    ensures { λ r. ⌜ r ≡ isPlus b ⌝ }
+{
+    (b == b'+') | (b == b'-')
+}
+
+fn is_times(b: u8) -> bool
+    ensures { λ r. ⌜ r ≡ isTimes b ⌝ }
+{
+    (b == b'*') | (b == b'/')
+}
+
+// A group's expression, then blanks and `)`.
+fn closing(s: &[u8], inner: Answer) -> Answer
+    ensures { λ r. ⌜ r ≡ closedAnswer (now (s .entry)) inner ⌝ }
+{
+    match inner {
+        Answer::Read(e, v) => {
+            let end = run::run(s, e, Class::Blank);
+            if bytes::peek(s, end) == b')' {
+                Answer::Read(end + 1, v)
+            } else {
+                Answer::Miss
+            }
+        }
+        Answer::Miss => Answer::Miss,
+        Answer::Deep(p) => Answer::Deep(p),
+    }
+}
+
+fn negating(inner: Answer) -> Answer
+    ensures { λ r. ⌜ r ≡ negatedAnswer inner ⌝ }
+{
+    match inner {
+        Answer::Read(e, v) => Answer::Read(e, negated(v)),
+        Answer::Miss => Answer::Miss,
+        Answer::Deep(p) => Answer::Deep(p),
+    }
+}
+
+// `left` more groups may open one in another.
+fn group_at(s: &[u8], at: usize, left: usize) -> Answer
+    ensures { λ r. ⌜ r ≡ answerOf (group left (now (s .entry)) at) ⌝ }
+{
+    if bytes::peek(s, at) == b'(' {
+        if left == 0 {
+            return Answer::Deep(at);
+        }
+        let inner = within_at(s, run::run(s, at + 1, Class::Blank), left - 1);
+        return closing(s, inner);
+    }
+    Answer::Miss
+}
+
+fn atom_at(s: &[u8], at: usize, left: usize) -> Answer
+    ensures { λ r. ⌜ r ≡ answerOf (atom (group left (now (s .entry))) (now (s .entry)) at) ⌝ }
+{
+    let number = literal::literal_at(s, at);
+    match number {
+        Answer::Read(e, v) => Answer::Read(e, v),
+        Answer::Miss => group_at(s, at, left),
+        Answer::Deep(p) => Answer::Deep(p),
+    }
+}
+
+// `*` and `/` with their operands, from a value on.
+fn factors(s: &[u8], from: usize, first: Value, left: usize) -> Answer
+    ensures { λ r. ⌜ r ≡ answerOf (goesOn isTimes (atom (group left (now (s .entry))) (now (s .entry))) (now (s .entry)) (length (now (s .entry))) first from) ⌝ }
+{
+    let mut end = from;
+    let mut value = first;
+    let mut turns = s.len();
+    while 0 < turns {
+        let i = run::run(s, end, Class::Blank);
+        let op = bytes::peek(s, i);
+        if is_times(op) {
+            let next = atom_at(s, run::run(s, i + 1, Class::Blank), left);
+            match next {
+                Answer::Read(f, w) => {
+                    value = combine(op, value, w);
+                    end = f;
+                }
+                Answer::Miss => {
+                    return Answer::Read(end, value);
+                }
+                Answer::Deep(p) => {
+                    return Answer::Deep(p);
+                }
+            }
+        } else {
+            return Answer::Read(end, value);
+        }
+        turns -= 1;
+    }
+    Answer::Read(end, value)
+}
+
+fn product_at(s: &[u8], at: usize, left: usize) -> Answer
+    ensures { λ r. ⌜ r ≡ answerOf (products (group left (now (s .entry))) (now (s .entry)) at) ⌝ }
+{
+    let first = atom_at(s, at, left);
+    match first {
+        Answer::Read(e, v) => factors(s, e, v, left),
+        Answer::Miss => Answer::Miss,
+        Answer::Deep(p) => Answer::Deep(p),
+    }
+}
+
+// `+` and `-` with their operands, from a value on.
+fn terms(s: &[u8], from: usize, first: Value, left: usize) -> Answer
+    ensures { λ r. ⌜ r ≡ answerOf (goesOn isPlus (products (group left (now (s .entry))) (now (s .entry))) (now (s .entry)) (length (now (s .entry))) first from) ⌝ }
+{
+    let mut end = from;
+    let mut value = first;
+    let mut turns = s.len();
+    while 0 < turns {
+        let i = run::run(s, end, Class::Blank);
+        let op = bytes::peek(s, i);
+        if is_plus(op) {
+            let next = product_at(s, run::run(s, i + 1, Class::Blank), left);
+            match next {
+                Answer::Read(f, w) => {
+                    value = combine(op, value, w);
+                    end = f;
+                }
+                Answer::Miss => {
+                    return Answer::Read(end, value);
+                }
+                Answer::Deep(p) => {
+                    return Answer::Deep(p);
+                }
+            }
+        } else {
+            return Answer::Read(end, value);
+        }
+        turns -= 1;
+    }
+    Answer::Read(end, value)
+}
+
+fn sum_at(s: &[u8], at: usize, left: usize) -> Answer
+    ensures { λ r. ⌜ r ≡ answerOf (sums (group left (now (s .entry))) (now (s .entry)) at) ⌝ }
+{
+    let first = product_at(s, at, left);
+    match first {
+        Answer::Read(e, v) => terms(s, e, v, left),
+        Answer::Miss => Answer::Miss,
+        Answer::Deep(p) => Answer::Deep(p),
+    }
+}
+
+fn negation_at(s: &[u8], at: usize, left: usize) -> Answer
+    ensures { λ r. ⌜ r ≡ answerOf (negation (group left (now (s .entry))) (now (s .entry)) at) ⌝ }
+{
+    if bytes::peek(s, at) == b'-' {
+        let inner = group_at(s, run::run(s, at + 1, Class::Blank), left);
+        return negating(inner);
+    }
+    Answer::Miss
+}
+
+// An expression, where `left` groups may open one in another.
+fn within_at(s: &[u8], at: usize, left: usize) -> Answer
+    ensures { λ r. ⌜ r ≡ answerOf (within left (now (s .entry)) at) ⌝ }
+{
+    let first = negation_at(s, at, left);
+    match first {
+        Answer::Read(e, v) => Answer::Read(e, v),
+        Answer::Miss => sum_at(s, at, left),
+        Answer::Deep(p) => Answer::Deep(p),
+    }
+}
+
+// Rule 8.
+pub fn expression_at(s: &[u8], at: usize) -> Answer
+    ensures { λ r. ⌜ r ≡ answerOf (expression (now (s .entry)) at) ⌝ }
+{
+    within_at(s, at, GROUPS)
+}

@@ -1,0 +1,5 @@
+// Expressions and amounts (rules 8, 9 and 10).
+pub mod amounts;
+pub mod detail;
+pub mod expression;
+pub mod literal;
