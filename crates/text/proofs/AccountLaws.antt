@@ -1,17 +1,21 @@
 -- The answers at accounts, each from what the code knows where it gives it.
-use Prim.Native.Nat.{ℕ, _+_, _≤_, _<_}
+use Prim.Native.Nat.{ℕ, _+_, _-_, _^_, _≤_, _<_}
 use native.Mathlib.Decide.{decLt}
 use native.Mathlib.Omega.{arith}
-use mathlib.Core.Path.{_≡_, sym, _∙_}
-use mathlib.Core.Bool.{Bool, true, false}
-use mathlib.Core.List.{List}
+use mathlib.Core.Path.{_≡_, refl, sym, _∙_}
+use mathlib.Core.Bool.{Bool, true, false, cond, _&&_, _||_}
+use mathlib.Core.List.{List, [], _∷_}
+use mir.Syntax.{w64}
+use mir.Val.{Fits}
 use borrow.Author.Tests.{ne-eqb}
+use lib.Dec.{eqb}
 use lib.ListN.{length, drop, getD, drop-of-length-le}
-use Rattle.text.specs.Bytes.{isCapital, isDigit, inAccount, startsPart}
+use Rattle.text.specs.Bytes.{isCapital, isSmall, isDigit, inAccount, startsPart}
 use Rattle.text.specs.Run.{runTo}
 use Rattle.text.specs.Accounts.{partFollows, partsFrom, accountAt}
 use Rattle.text.specs.declared.account.AccountRead.the-variants.{To, Miss, Hard}
-use Rattle.text.proofs.Steps.{drop-step, head-drop, getD-past, run-out, run-same}
+use Rattle.text.proofs.TestLaws.{and-left}
+use Rattle.text.proofs.Steps.{drop-step, head-drop, getD-past, such-within, run-out, run-same}
 
 module _ (s : List ℕ) (at : ℕ) where
   -- a colon and the start of a part
@@ -37,41 +41,87 @@ module _ (s : List ℕ) (at : ℕ) where
     unfolding accountAt
     account-no q = cc
 
-    module _ (q : r ≡ true) (t : Bool) (e : ℕ) (f : e ≡ runTo inAccount s (at + 1)) (u : t ≡ partFollows s e) where
-      pub account-read : (j : ℕ) → t ≡ true → j ≡ partsFrom (drop e s) e → To j ≡ accountAt s at
-      unfolding accountAt
-      account-read j h w = cc
-
-      pub account-hard : t ≡ false → Hard ≡ accountAt s at
-      unfolding accountAt
-      account-hard h = cc
-
 -- a byte inside a part
-pub parts-on : (s : List ℕ) (i : ℕ) → i < length s → inAccount (getD s i 0) ≡ true → partsFrom (drop i s) i ≡ partsFrom (drop (i + 1) s) (i + 1)
+parts-on : (s : List ℕ) (i : ℕ) → i < length s → inAccount (getD s i 0) ≡ true → partsFrom (drop i s) i ≡ partsFrom (drop (i + 1) s) (i + 1)
 unfolding partsFrom
 parts-on s i h e = rw (drop-step s i h, e)
 
--- The loop over the parts: the answer a is the end of what is left at i, the run there ends at e, and r says whether a part follows.
-module _ (a : ℕ) (s : List ℕ) (i e : ℕ) (v : a ≡ partsFrom (drop i s) i) (f : e ≡ runTo inAccount s i) where
-  -- after the run the same is left
-  parts-run : a ≡ partsFrom (drop e s) e
-  parts-run = v ∙ run-same inAccount s (λ (j : ℕ). partsFrom (drop j s) j) (parts-on s) i e f
+-- at a part's end
+parts-at : (s : List ℕ) (i : ℕ) → inAccount (getD s i 0) ≡ false
+    → partsFrom (drop i s) i ≡ cond (partFollows s i) (partsFrom (drop (i + 1) s) (i + 1)) i
+unfolding partsFrom partFollows
+parts-at s i n =
+    elim (decLt i (length s)) [
+      | yes h ↦ rw (drop-step s i h, n, head-drop s (i + 1))
+      | no h ↦ rw (drop-of-length-le s {i = i} (omega arith), getD-past s i (omega arith))
+    ]
 
-  pub parts-end : length s ≤ e → e ≡ a
-  unfolding partsFrom
-  parts-end h = sym (parts-run ∙ rw (drop-of-length-le s h))
+-- a run of a part's bytes ends at a part's end
+none-past : inAccount 0 ≡ false
+unfolding inAccount isCapital isSmall isDigit
+none-past = refl
 
-  pub parts-join : (r : Bool) → e < length s → r ≡ partFollows s e → r ≡ true → a ≡ partsFrom (drop (e + 1) s) (e + 1)
-  unfolding partsFrom partFollows
-  parts-join r h u t = parts-run ∙ rw (drop-step s e h, run-out inAccount s i e f h, head-drop s (e + 1), sym u ∙ t)
+pub part-ends : (s : List ℕ) (i e : ℕ) → e ≡ runTo inAccount s i → inAccount (getD s e 0) ≡ false
+part-ends s i e f = elim (decLt e (length s)) [ yes h ↦ run-out inAccount s i e f h | no h ↦ rw (getD-past s e (omega arith)) none-past ]
 
-  pub parts-stop : (r : Bool) → r ≡ partFollows s e → r ≡ false → e ≡ a
-  unfolding partsFrom partFollows
-  parts-stop r u t =
-      elim (decLt e (length s)) [ yes h ↦ sym (parts-run ∙ rw (drop-step s e h, run-out inAccount s i e f h, head-drop s (e + 1), sym u ∙ t)) | no h ↦ parts-end (omega arith) ]
+-- The loop over the parts: the answer a is the end of what is left at i, a part's end, and r says whether a part follows.
+module _ (s : List ℕ) (i : ℕ) (r : Bool) (u : r ≡ partFollows s i) where
+  -- where one follows, its colon stands in the text
+  parts-within : r ≡ true → i < length s
+  unfolding partFollows
+  parts-within t =
+      such-within (λ x. eqb x 58) s i (getD s i 0) refl refl (and-left (eqb (getD s i 0) 58) (startsPart (getD s (i + 1) 0)) (sym u ∙ t))
+
+  pub parts-fits : r ≡ true → length s < 2 ^ 64 → Fits w64 (i + 1)
+  parts-fits t h = record { fits = omega (arith, parts-within t) }
+
+  pub parts-less : (e : ℕ) → r ≡ true → i + 1 ≤ e → length s - e < length s - i
+  parts-less e t h = omega (arith, parts-within t)
+
+  module _ (a : ℕ) (v : a ≡ partsFrom (drop i s) i) (n : inAccount (getD s i 0) ≡ false) where
+    pub parts-stop : r ≡ false → i ≡ a
+    parts-stop t = sym (v ∙ parts-at s i n ∙ rw (← u, t) refl)
+
+    parts-join : r ≡ true → a ≡ partsFrom (drop (i + 1) s) (i + 1)
+    parts-join t = v ∙ parts-at s i n ∙ rw (← u, t) refl
+
+    pub parts-next : (e : ℕ) → r ≡ true → e ≡ runTo inAccount s (i + 1) → a ≡ partsFrom (drop e s) e
+    parts-next e t f = parts-join t ∙ run-same inAccount s (λ (j : ℕ). partsFrom (drop j s) j) (parts-on s) (i + 1) e f
+
+-- the end of the parts is not before where they are read from
+parts-from : (s : List ℕ) (i : ℕ) → i ≤ partsFrom s i
+unfolding partsFrom
+parts-from [] i = omega arith
+parts-from (b ∷ s) i = go (inAccount b || (eqb b 58 && startsPart (getD s 0 0))) (parts-from s (i + 1))
+  where
+    go : (c : Bool) → i + 1 ≤ partsFrom s (i + 1) → i ≤ cond c (partsFrom s (i + 1)) i
+    go true h = omega arith
+    go false h = omega arith
+
+-- An account whose first part ends at e, and its parts at j: they end there too if no second one follows.
+module _ (s : List ℕ) (at : ℕ) (r : Bool) (p : r ≡ startsPart (getD s at 0)) (q : r ≡ true) (e j : ℕ)
+    (f : e ≡ runTo inAccount s (at + 1)) (w : j ≡ partsFrom (drop e s) e) where
+  by-follows : (t : Bool) → partFollows s e ≡ t → accountAt s at ≡ cond t (To j) Hard
+  unfolding accountAt
+  by-follows t u = cc
+
+  pub account-read : e < j → To j ≡ accountAt s at
+  account-read l = go (partFollows s e) refl
+    where
+      go : (t : Bool) → partFollows s e ≡ t → To j ≡ accountAt s at
+      go true u = sym (by-follows true u)
+      go false u = absurd (omega (arith, parts-stop s e false (sym u) j w (part-ends s (at + 1) e f) refl))
+
+  pub account-hard : j ≤ e → Hard ≡ accountAt s at
+  account-hard l = go (partFollows s e) refl
+    where
+      go : (t : Bool) → partFollows s e ≡ t → Hard ≡ accountAt s at
+      go true u =
+          absurd (omega (arith, parts-join s e true (sym u) j w (part-ends s (at + 1) e f) refl, parts-from (drop (e + 1) s) (e + 1)))
+      go false u = sym (by-follows false u)
 
 pub ruleset follow-laws = (follows, no-colon, past-colon)
 
-pub ruleset parts-laws = (parts-end, parts-join, parts-stop)
+pub ruleset parts-laws = (part-ends, parts-fits, parts-less, parts-stop, parts-next)
 
-pub ruleset account-laws = (account-read, account-hard, account-no, account-past)
+pub ruleset account-laws = (part-ends, account-read, account-hard, account-no, account-past)

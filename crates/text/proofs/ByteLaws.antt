@@ -27,13 +27,15 @@ as-account b r e = e ∙ turned (isCapital b) (isSmall b) (isDigit b) (eqb b 45)
     turned false true d m = refl
     turned false false d m = refl
 
-pub as-currency : (b : ℕ) (r : Bool) → r ≡ (startsPart b || (eqb b 45 || eqb b 95 || eqb b 46 || eqb b 39)) → r ≡ inCurrency b
-unfolding startsPart inCurrency
-as-currency b r e = e ∙ grouped (isCapital b || isDigit b) (eqb b 45) (eqb b 95) (eqb b 46) (eqb b 39)
-  where
-    grouped : (c m l p a : Bool) → (c || (m || l || p || a)) ≡ (c || m || l || p || a)
-    grouped true m l p a = refl
-    grouped false m l p a = refl
+-- capitals first; c and d are what the code's tests gave
+module _ (b : ℕ) (c : Bool) (e : c ≡ isCapital b) where
+  pub currency-capital : c ≡ true → true ≡ inCurrency b
+  unfolding inCurrency
+  currency-capital t = rw (← e, t)
+
+  pub currency-other : (d : Bool) → c ≡ false → d ≡ isDigit b → (d || eqb b 45 || eqb b 95 || eqb b 46 || eqb b 39) ≡ inCurrency b
+  unfolding inCurrency
+  currency-other d t f = rw (← e, t, f)
 
 pub as-tag : (b : ℕ) (r : Bool) → r ≡ (inAccount b || eqb b 95) → r ≡ inTag b
 unfolding inAccount inTag
@@ -43,4 +45,4 @@ pub as-link : (b : ℕ) (r : Bool) → r ≡ (inTag b || eqb b 46) → r ≡ inL
 unfolding inLink
 as-link b r e = e
 
-pub ruleset class-laws = (or-yes, or-no, as-start, as-account, as-currency, as-tag, as-link)
+pub ruleset class-laws = (or-yes, or-no, as-start, as-account, currency-capital, currency-other, as-tag, as-link)

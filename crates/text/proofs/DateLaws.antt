@@ -2,32 +2,58 @@
 use Prim.Native.Nat.{ℕ, _+_, _-_, _*_, _≤_, _<_}
 use native.Mathlib.Omega.{arith}
 use mathlib.Core.Path.{_≡_, refl, sym, _∙_}
-use mathlib.Core.Bool.{Bool, true, false, _&&_, and-false}
+use mathlib.Core.Bool.{Bool, true, false, _&&_, and-true, and-false, and-assoc}
 use mathlib.Core.List.{List, [], _∷_}
-use lib.Dec.{leb}
-use lib.ListN.{length, drop, getD, drop-of-length-le, length-drop}
+use lib.Dec.{eqb, leb}
+use lib.ListN.{length, drop, getD, length-drop}
+use Rattle.text.specs.Bytes.{isDigit}
 use Rattle.text.specs.Dates.{asShape, likeShape, dateShape, two, dateIn, dateAt}
 use Rattle.text.specs.declared.date.Dated.{Dated}
 use Rattle.text.specs.declared.date.Dated.the-variants.{On, Miss}
 use Rattle.text.proofs.Steps.{drop-step}
 
--- The loop over a shape: the answer a is whether what is left of the shape stands at i; r is what the code's test gave.
-module _ (a : Bool) (s w : List ℕ) (i k : ℕ) (v : a ≡ likeShape (drop k w) (drop i s)) where
-  pub shape-on : (r : Bool) → i < length s → k < length w → r ≡ asShape (getD w k 0) (getD s i 0) → r ≡ true → a ≡ likeShape (drop (k + 1) w) (drop (i + 1) s)
-  unfolding likeShape
-  shape-on r h l e t = v ∙ rw (drop-step s i h, drop-step w k l, sym e ∙ t)
+-- two digits at a place, x and y what the code's tests gave
+abbrev twoAt : List ℕ → ℕ → Bool
+twoAt s i = isDigit (getD s i 0) && isDigit (getD s (i + 1) 0)
 
-  pub shape-differs : (r : Bool) → i < length s → k < length w → r ≡ asShape (getD w k 0) (getD s i 0) → r ≡ false → false ≡ a
-  unfolding likeShape
-  shape-differs r h l e t = sym (v ∙ rw (drop-step s i h, drop-step w k l, sym e ∙ t))
+pub two-tested : (s : List ℕ) (i : ℕ) (x y : Bool) → x ≡ isDigit (getD s i 0) → y ≡ isDigit (getD s (i + 1) 0) → (x && y) ≡ twoAt s i
+two-tested s i x y e f = rw (e, f)
 
-  pub shape-short : length s ≤ i → k < length w → false ≡ a
+-- a shape at place i: one byte of it, a dash, two digits; then what is left of it at place j
+module _ (w s : List ℕ) (i j : ℕ) where
+  like-byte : (c : ℕ) → i < length s → j ≡ i + 1 → likeShape (c ∷ w) (drop i s) ≡ (asShape c (getD s i 0) && likeShape w (drop j s))
   unfolding likeShape
-  shape-short h l = sym (v ∙ rw (drop-of-length-le s h, drop-step w k l))
+  like-byte c h e = rw (drop-step s i h, e)
 
-  pub shape-done : length w ≤ k → true ≡ a
-  unfolding likeShape
-  shape-done l = sym (v ∙ rw (drop-of-length-le w l))
+  like-dash : i < length s → j ≡ i + 1 → likeShape (45 ∷ w) (drop i s) ≡ (eqb (getD s i 0) 45 && likeShape w (drop j s))
+  unfolding asShape
+  like-dash h e = like-byte 45 h e
+
+like-two : (w s : List ℕ) (i j : ℕ) (r : Bool) → i + 1 < length s → j ≡ i + 2 → r ≡ twoAt s i
+    → likeShape (48 ∷ 48 ∷ w) (drop i s) ≡ (r && likeShape w (drop j s))
+unfolding asShape
+like-two w s i j r h e f =
+    rw (like-byte (48 ∷ w) s i (i + 1) 48 (omega arith) refl, like-byte w s (i + 1) j 48 h (omega arith), f)
+    (sym (and-assoc (isDigit (getD s i 0)) (isDigit (getD s (i + 1) 0)) (likeShape w (drop j s))))
+
+-- the ten bytes of a date
+pub shape-tested : (s : List ℕ) (at : ℕ) (p q r t : Bool) → at + 10 ≤ length s
+    → p ≡ twoAt s at → q ≡ twoAt s (at + 2) → r ≡ twoAt s (at + 5) → t ≡ twoAt s (at + 8)
+    → (p && q && eqb (getD s (at + 4) 0) 45 && r && eqb (getD s (at + 7) 0) 45 && t) ≡ likeShape dateShape (drop at s)
+unfolding likeShape
+shape-tested s at p q r t h e f g k =
+    rw (like-two _ s at (at + 2) p (omega arith) refl e, like-two _ s (at + 2) (at + 4) q (omega arith) (omega arith) f)
+    (rw (like-dash _ s (at + 4) (at + 5) (omega arith) (omega arith), like-two _ s (at + 5) (at + 7) r (omega arith) (omega arith) g)
+    (rw (like-dash _ s (at + 7) (at + 8) (omega arith) (omega arith), like-two _ s (at + 8) (at + 10) t (omega arith) (omega arith) k)
+    (grouped p q (eqb (getD s (at + 4) 0) 45) r (eqb (getD s (at + 7) 0) 45) t)))
+  where
+    grouped : (p q m r n t : Bool) → (p && q && m && r && n && t) ≡ (p && (q && (m && (r && (n && (t && true))))))
+    grouped true true true true true t = sym (and-true t)
+    grouped true true true true false t = refl
+    grouped true true true false n t = refl
+    grouped true true false r n t = refl
+    grouped true false m r n t = refl
+    grouped false q m r n t = refl
 
 -- a text shorter than a shape is not like it
 pub like-length : (w s : List ℕ) → length s < length w → likeShape w s ≡ false
@@ -66,7 +92,9 @@ module _ (s : List ℕ) (at : ℕ) where
   unfolding dateAt
   date-no r p q = cc
 
-pub ruleset shape-laws = (shape-on, shape-differs, shape-short, shape-done)
+pub ruleset two-laws = two-tested
+
+pub ruleset shape-laws = shape-tested
 
 pub ruleset in-laws = (in-read, in-no)
 

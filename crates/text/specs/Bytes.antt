@@ -23,6 +23,10 @@ isSmall b = leb 97 b && leb b 122
 unfoldable pub isCapital : ℕ → Bool
 isCapital b = leb 65 b && leb b 90
 
+-- Rule 1. What a line holds before its LF.
+unfoldable pub inLine : ℕ → Bool
+inLine b = not (eqb b 10)
+
 -- Rule 2. What a comment holds: all but CR and LF.
 unfoldable pub inComment : ℕ → Bool
 inComment b = not (eqb b 10) && not (eqb b 13)

@@ -3,7 +3,9 @@ use crate::bytes;
 use crate::run;
 use crate::run::Class;
 ghost use mathlib.Core.Path.{_≡_};
-ghost use lib.ListN.{drop};
+ghost use mathlib.Core.Bool.{false};
+ghost use lib.ListN.{drop, getD};
+ghost use Rattle.text.specs.Bytes.{inAccount};
 ghost use Rattle.text.specs.Accounts.{partFollows, partsFrom, accountAt};
 
 // An account's reading. After a first part, missing the second is hard.
@@ -25,23 +27,16 @@ fn part_follows(s: &[u8], at: usize) -> bool
     false
 }
 
-// The end of an account, from inside a part of it.
+// The end of an account, from the end of a part of it: each part is run to its end before a `:` is looked for.
 fn parts(s: &[u8], at: usize) -> usize
+    requires { ⌜ inAccount (getD (now s) at 0) ≡ false ⌝ }
     ensures { λ r. ⌜ r ≡ partsFrom (drop at (now (s .entry))) at ⌝ }
 {
-    let mut i = at;
-    loop {
-        let e = run::run(s, i, Class::Account);
-        if part_follows(s, e) {
-            if e < s.len() {
-                i = e + 1;
-            } else {
-                return e;
-            }
-        } else {
-            return e;
-        }
+    let mut e = at;
+    while part_follows(s, e) {
+        e = run::run(s, e + 1, Class::Account);
     }
+    e
 }
 
 pub fn account(s: &[u8], at: usize) -> AccountRead
@@ -50,8 +45,9 @@ pub fn account(s: &[u8], at: usize) -> AccountRead
     if at < s.len() {
         if bytes::starts_part(s[at]) {
             let e = run::run(s, at + 1, Class::Account);
-            if part_follows(s, e) {
-                return AccountRead::To(parts(s, e));
+            let f = parts(s, e);
+            if e < f {
+                return AccountRead::To(f);
             }
             return AccountRead::Hard;
         }

@@ -1,7 +1,7 @@
 // Byte classes. The bytes that are met most often are tested first.
 ghost use mathlib.Core.Path.{_≡_};
 ghost use lib.ListN.{getD};
-ghost use Rattle.text.specs.Bytes.{isBlank, isSpace, isDigit, isSmall, isCapital, inComment, isOrdinary, isEscaped, startsPart, inAccount, inCurrency, inTag, inLink};
+ghost use Rattle.text.specs.Bytes.{isBlank, isSpace, isDigit, isSmall, isCapital, inLine, inComment, isOrdinary, isEscaped, startsPart, inAccount, inCurrency, inTag, inLink};
 
 // The byte at a place, or 0 past the end.
 pub fn peek(s: &[u8], at: usize) -> u8
@@ -41,6 +41,13 @@ pub fn is_capital(b: u8) -> bool
     ensures { λ r. ⌜ r ≡ isCapital b ⌝ }
 {
     (b'A' <= b) & (b <= b'Z')
+}
+
+// Rule 1.
+pub fn in_line(b: u8) -> bool
+    ensures { λ r. ⌜ r ≡ inLine b ⌝ }
+{
+    b != b'\n'
 }
 
 // Rule 2.
@@ -91,10 +98,10 @@ pub fn in_account(b: u8) -> bool
 pub fn in_currency(b: u8) -> bool
     ensures { λ r. ⌜ r ≡ inCurrency b ⌝ }
 {
-    if starts_part(b) {
+    if is_capital(b) {
         return true;
     }
-    (b == b'-') | (b == b'_') | (b == b'.') | (b == b'\'')
+    is_digit(b) | (b == b'-') | (b == b'_') | (b == b'.') | (b == b'\'')
 }
 
 // Rules 14 and 16.

@@ -2,8 +2,10 @@
 use crate::bytes;
 ghost use mathlib.Core.Path.{_≡_};
 ghost use Prim.Native.Nat.{_+_, _-_, _≤_, _<_};
-ghost use lib.ListN.{drop, length};
-ghost use Rattle.text.specs.Dates.{asShape, likeShape, two, dateIn, dateAt};
+ghost use mathlib.Core.Bool.{_&&_};
+ghost use lib.ListN.{drop, getD, length};
+ghost use Rattle.text.specs.Bytes.{isDigit};
+ghost use Rattle.text.specs.Dates.{likeShape, dateShape, two, dateIn, dateAt};
 
 // A date that was read: where it ends, and year times 10,000 plus month times 100 plus day.
 pub enum Dated {
@@ -37,36 +39,25 @@ fn two_digits(s: &[u8], at: usize) -> u32
     digit(s[at]) * 10 + digit(s[at + 1])
 }
 
-// Whether a byte is as a shape's byte says: 0 stands for any digit, any other byte for itself.
-fn as_shape(w: u8, b: u8) -> bool
-    ensures { λ r. ⌜ r ≡ asShape w b ⌝ }
+// Whether two digits stand at a place.
+fn two_stand(s: &[u8], at: usize) -> bool
+    requires { ⌜ at + 1 < length (now s) ⌝ }
+    ensures { λ r. ⌜ r ≡ (isDigit (getD (now (s .entry)) at 0) && isDigit (getD (now (s .entry)) (at + 1) 0)) ⌝ }
 {
-    if w == b'0' {
-        bytes::is_digit(b)
-    } else {
-        b == w
-    }
+    bytes::is_digit(s[at]) & bytes::is_digit(s[at + 1])
 }
 
-// Whether bytes of a shape stand at a place.
-fn shape(s: &[u8], at: usize, w: &[u8]) -> bool
-    ensures { λ r. ⌜ r ≡ likeShape (now (w .entry)) (drop at (now (s .entry))) ⌝ }
+// Whether four digits, `-`, two, `-`, two stand at a place.
+fn shape(s: &[u8], at: usize) -> bool
+    requires { ⌜ at + 10 ≤ length (now s) ⌝ }
+    ensures { λ r. ⌜ r ≡ likeShape dateShape (drop at (now (s .entry))) ⌝ }
 {
-    let mut i = at;
-    let mut k = 0;
-    while k < w.len() {
-        if i < s.len() {
-            if as_shape(w[k], s[i]) {
-                i += 1;
-                k += 1;
-            } else {
-                return false;
-            }
-        } else {
-            return false;
-        }
-    }
-    true
+    two_stand(s, at)
+        & two_stand(s, at + 2)
+        & (s[at + 4] == b'-')
+        & two_stand(s, at + 5)
+        & (s[at + 7] == b'-')
+        & two_stand(s, at + 8)
 }
 
 // The date whose shape stands at a place: month 01 to 12, day 01 to 31.
@@ -93,7 +84,7 @@ pub fn date(s: &[u8], at: usize) -> Dated
     if s.len() - 10 < at {
         return Dated::Miss;
     }
-    if shape(s, at, b"0000-00-00") {
+    if shape(s, at) {
         return date_in(s, at);
     }
     Dated::Miss

@@ -14,6 +14,7 @@ pub enum Class {
     Currency,
     Tag,
     Link,
+    Line,
 }
 
 pub fn in_class(k: Class, b: u8) -> bool
@@ -28,6 +29,7 @@ pub fn in_class(k: Class, b: u8) -> bool
         Class::Currency => bytes::in_currency(b),
         Class::Tag => bytes::in_tag(b),
         Class::Link => bytes::in_link(b),
+        Class::Line => bytes::in_line(b),
     }
 }
 

@@ -15,9 +15,6 @@ add-run c = search (needs, account-laws)
 run-requires : tie.Need-run-requires
 run-requires c κs = search (needs, account-laws)
 
-part-follows-requires : tie.Need-part-follows-requires
-part-follows-requires c κs = search (needs, account-laws)
-
 parts-requires : tie.Need-parts-requires
 parts-requires c κs = search (needs, account-laws)
 
@@ -41,7 +38,6 @@ account-spec =
     starts-part-requires
     add-run
     run-requires
-    part-follows-requires
     parts-requires
     returns
     returns-2

@@ -1,6 +1,8 @@
 use Prim.Native.Nat.{_-_}
 use mathlib.Core.Path.{_≡_}
-use lib.ListN.{length, drop}
+use mathlib.Core.Bool.{false}
+use lib.ListN.{length, drop, getD}
+use Rattle.text.specs.Bytes.{inAccount}
 use Rattle.text.specs.Accounts.{partsFrom}
 use Rattle.text.proofs.AccountLaws.{parts-laws}
 use borrow.Author.Needs.{needs}
@@ -8,22 +10,22 @@ use Rattle.text.proofs.account.parts.Statement.{statement}
 use Rattle.text.proofs.account.parts.Tie as tie
 
 abbrev Inv-loop : tie.InvT-loop
-Inv-loop s at i₀ i = partsFrom (drop at s) at ≡ partsFrom (drop i s) i
+Inv-loop s at e₀ e = (partsFrom (drop at s) at ≡ partsFrom (drop e s) e) × (inAccount (getD s e 0) ≡ false)
 
 abbrev μ-loop : tie.MeasureT-loop
-μ-loop s at i₀ i = length s - i
+μ-loop s at e₀ e = length s - e
 
 loop-holds : tie.Need-loop-holds Inv-loop μ-loop
 loop-holds c = search (needs, parts-laws)
 
-run-requires : tie.Need-run-requires Inv-loop μ-loop
-run-requires c κs = search (needs, parts-laws)
-
 part-follows-requires : tie.Need-part-follows-requires Inv-loop μ-loop
 part-follows-requires c κs = search (needs, parts-laws)
 
-add-i : tie.Need-add-i Inv-loop μ-loop
-add-i c = search (needs, parts-laws)
+add-run : tie.Need-add-run Inv-loop μ-loop
+add-run c = search (needs, parts-laws)
+
+run-requires : tie.Need-run-requires Inv-loop μ-loop
+run-requires c κs = search (needs, parts-laws)
 
 loop-less : tie.Need-loop-less Inv-loop μ-loop
 loop-less c = search (needs, parts-laws)
@@ -34,9 +36,6 @@ loop-again c = search (needs, parts-laws)
 returns : tie.Need-returns Inv-loop μ-loop
 returns c = search (needs, parts-laws)
 
-returns-2 : tie.Need-returns-2 Inv-loop μ-loop
-returns-2 c = search (needs, parts-laws)
-
 pub parts-spec : {M : Type 1} → statement M
 parts-spec =
     tie.close
@@ -44,10 +43,9 @@ parts-spec =
     Inv-loop
     μ-loop
     loop-holds
-    run-requires
     part-follows-requires
-    add-i
+    add-run
+    run-requires
     loop-less
     loop-again
-    returns
-    returns-2)
+    returns)

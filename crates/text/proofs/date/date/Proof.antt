@@ -12,9 +12,6 @@ sub-if2 c = search (needs, date-laws)
 returns-2 : tie.Need-returns-2
 returns-2 c = search (needs, date-laws)
 
-slice-aggregate-shape : tie.Need-slice-aggregate-shape
-slice-aggregate-shape c = search (needs, date-laws)
-
 shape-requires : tie.Need-shape-requires
 shape-requires c κs = search (needs, date-laws)
 
@@ -30,12 +27,4 @@ returns-4 c = search (needs, date-laws)
 pub date-spec : {M : Type 1} → statement M
 date-spec =
     tie.close
-    (tie.spec
-    returns
-    sub-if2
-    returns-2
-    slice-aggregate-shape
-    shape-requires
-    date-in-requires
-    returns-3
-    returns-4)
+    (tie.spec returns sub-if2 returns-2 shape-requires date-in-requires returns-3 returns-4)

@@ -1,65 +1,57 @@
-use Prim.Native.Nat.{_-_}
-use mathlib.Core.Path.{_≡_}
-use lib.ListN.{length, drop}
-use Rattle.text.specs.Dates.{likeShape}
 use Rattle.text.proofs.DateLaws.{shape-laws}
 use borrow.Author.Needs.{needs}
 use Rattle.text.proofs.date.shape.Statement.{statement}
 use Rattle.text.proofs.date.shape.Tie as tie
 
-abbrev Inv-loop : tie.InvT-loop
-Inv-loop s at w i₀ k₀ i k = likeShape w (drop at s) ≡ likeShape (drop k w) (drop i s)
+two-stand-requires : tie.Need-two-stand-requires
+two-stand-requires c κs = search (needs, shape-laws)
 
-abbrev μ-loop : tie.MeasureT-loop
-μ-loop s at w i₀ k₀ i k = length w - k
+add-two-stand : tie.Need-add-two-stand
+add-two-stand c = search (needs, shape-laws)
 
-loop-holds : tie.Need-loop-holds Inv-loop μ-loop
-loop-holds c = search (needs, shape-laws)
+two-stand-requires-2 : tie.Need-two-stand-requires-2
+two-stand-requires-2 c κs = search (needs, shape-laws)
 
-shared-slice-read-as-shape : tie.Need-shared-slice-read-as-shape Inv-loop μ-loop
-shared-slice-read-as-shape c = search (needs, shape-laws)
+add-result : tie.Need-add-result
+add-result c = search (needs, shape-laws)
 
-shared-slice-read-as-shape-2 : tie.Need-shared-slice-read-as-shape-2 Inv-loop μ-loop
-shared-slice-read-as-shape-2 c = search (needs, shape-laws)
+shared-slice-read-result : tie.Need-shared-slice-read-result
+shared-slice-read-result c = search (needs, shape-laws)
 
-as-shape-requires : tie.Need-as-shape-requires Inv-loop μ-loop
-as-shape-requires c κs = search (needs, shape-laws)
+add-two-stand-2 : tie.Need-add-two-stand-2
+add-two-stand-2 c = search (needs, shape-laws)
 
-add-i : tie.Need-add-i Inv-loop μ-loop
-add-i c = search (needs, shape-laws)
+two-stand-requires-3 : tie.Need-two-stand-requires-3
+two-stand-requires-3 c κs = search (needs, shape-laws)
 
-add-k : tie.Need-add-k Inv-loop μ-loop
-add-k c = search (needs, shape-laws)
+add-result-2 : tie.Need-add-result-2
+add-result-2 c = search (needs, shape-laws)
 
-loop-less : tie.Need-loop-less Inv-loop μ-loop
-loop-less c = search (needs, shape-laws)
+shared-slice-read-result-2 : tie.Need-shared-slice-read-result-2
+shared-slice-read-result-2 c = search (needs, shape-laws)
 
-loop-again : tie.Need-loop-again Inv-loop μ-loop
-loop-again c = search (needs, shape-laws)
+add-two-stand-3 : tie.Need-add-two-stand-3
+add-two-stand-3 c = search (needs, shape-laws)
 
-returns : tie.Need-returns Inv-loop μ-loop
+two-stand-requires-4 : tie.Need-two-stand-requires-4
+two-stand-requires-4 c κs = search (needs, shape-laws)
+
+returns : tie.Need-returns
 returns c = search (needs, shape-laws)
-
-returns-2 : tie.Need-returns-2 Inv-loop μ-loop
-returns-2 c = search (needs, shape-laws)
-
-returns-3 : tie.Need-returns-3 Inv-loop μ-loop
-returns-3 c = search (needs, shape-laws)
 
 pub shape-spec : {M : Type 1} → statement M
 shape-spec =
     tie.close
     (tie.spec
-    Inv-loop
-    μ-loop
-    loop-holds
-    shared-slice-read-as-shape
-    shared-slice-read-as-shape-2
-    as-shape-requires
-    add-i
-    add-k
-    loop-less
-    loop-again
-    returns
-    returns-2
-    returns-3)
+    two-stand-requires
+    add-two-stand
+    two-stand-requires-2
+    add-result
+    shared-slice-read-result
+    add-two-stand-2
+    two-stand-requires-3
+    add-result-2
+    shared-slice-read-result-2
+    add-two-stand-3
+    two-stand-requires-4
+    returns)

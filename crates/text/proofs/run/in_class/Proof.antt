@@ -51,6 +51,12 @@ enum-told-8 c = search (needs, name-laws)
 in-link-requires : tie.Need-in-link-requires
 in-link-requires c κs = search (needs, name-laws)
 
+enum-told-9 : tie.Need-enum-told-9
+enum-told-9 c = search (needs, name-laws)
+
+in-line-requires : tie.Need-in-line-requires
+in-line-requires c κs = search (needs, name-laws)
+
 returns : tie.Need-returns
 returns c = search (needs, name-laws)
 
@@ -75,6 +81,9 @@ returns-7 c = search (needs, name-laws)
 returns-8 : tie.Need-returns-8
 returns-8 c = search (needs, name-laws)
 
+returns-9 : tie.Need-returns-9
+returns-9 c = search (needs, name-laws)
+
 pub in-class-spec : {M : Type 1} → statement M
 in-class-spec =
     tie.close
@@ -95,6 +104,8 @@ in-class-spec =
     in-tag-requires
     enum-told-8
     in-link-requires
+    enum-told-9
+    in-line-requires
     returns
     returns-2
     returns-3
@@ -102,4 +113,5 @@ in-class-spec =
     returns-5
     returns-6
     returns-7
-    returns-8)
+    returns-8
+    returns-9)
