@@ -46,7 +46,7 @@ module _ (s : List ℕ) where
   -- ---- literals
 
   -- no bytes are no literal
-  none-between : (m : Bool) (c e : ℕ) → e ≤ c → literalAs m (between s c e) e ≡ Miss
+  pub none-between : (m : Bool) (c e : ℕ) → e ≤ c → literalAs m (between s c e) e ≡ Miss
   unfolding literalAs plain count
   none-between m c e h = ap (λ n. literalAs m (take n (drop c s)) e) {x = e - c} {y = 0} (omega arith)
 
@@ -70,8 +70,15 @@ module _ (s : List ℕ) where
       cond-reach (λ a. a) N (at + 1) (eqb (getD s at 0) 45) (unsigned true s (at + 1)) (unsigned false s at)
       (λ _. reach-from N (at + 1 + 1) (at + 1) (unsigned true s (at + 1)) (omega arith) (unsigned-reach true (at + 1))) (λ _. unsigned-reach false at)
 
-  -- ---- operators and operands, where each operand x ends so
+  -- ---- operators and operands
 
+  -- where no operator follows, nothing goes on
+  pub goes-off : (op : ℕ → Bool) (x : ℕ → Ans Value) (k : ℕ) (v : Value) (e : ℕ) → op (getD s (blanks s e) 0) ≡ false → goesOn op x s k v e ≡ To e v
+  unfolding goesOn
+  goes-off op x zero v e f = refl
+  goes-off op x (suc k) v e f = rw f
+
+  -- each operand x ends so
   module _ (op : ℕ → Bool) (x : ℕ → Ans Value) (X : (i : ℕ) → Reach N (i + 1) (x i)) where
     goes-reach : (k : ℕ) (v : Value) (e i : ℕ) → i ≤ e → e ≤ N → Reach N i (goesOn op x s k v e)
     unfolding goesOn
@@ -92,9 +99,7 @@ module _ (s : List ℕ) where
     -- any two counts of turns give the same, if both are enough for the bytes that are left
     module _ (none : op 0 ≡ false) where
       goes-end : (k : ℕ) (v : Value) (e : ℕ) → N ≤ e → goesOn op x s k v e ≡ To e v
-      unfolding goesOn
-      goes-end zero v e h = refl
-      goes-end (suc k) v e h = rw (run-ends isBlank s e h, getD-past s e h, none)
+      goes-end k v e h = goes-off op x k v e (rw (run-ends isBlank s e h, getD-past s e h) none)
 
       pub goes-turns : (d k : ℕ) (v : Value) (e : ℕ) → N ≤ d + e → N ≤ k + e → goesOn op x s d v e ≡ goesOn op x s k v e
       unfolding goesOn

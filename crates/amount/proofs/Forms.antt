@@ -132,10 +132,14 @@ negated-answer Miss = refl
 negated-answer (Hard k i) = refl
 
 module _ (s : List ℕ) (at b : ℕ) (p : b ≡ getD s at 0) where
+  pub group-misses : (n : ℕ) → (b ≡ 40 → ⊥) → group n s at ≡ Miss
+  unfolding group
+  group-misses zero f = rw (← p, ne-eqb b 40 f)
+  group-misses (suc n) f = rw (← p, ne-eqb b 40 f)
+
   pub no-group : (n : ℕ) → (b ≡ 40 → ⊥) → Answer.Miss ≡ answerOf (group n s at)
-  unfolding group answerOf
-  no-group zero f = rw (← p, ne-eqb b 40 f)
-  no-group (suc n) f = rw (← p, ne-eqb b 40 f)
+  unfolding answerOf
+  no-group n f = rw (group-misses n f)
 
   pub deep-group : (n : ℕ) → b ≡ 40 → n ≡ 0 → Answer.Deep at ≡ answerOf (group n s at)
   unfolding group answerOf

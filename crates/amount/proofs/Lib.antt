@@ -7,5 +7,6 @@ pub mod Forms
 pub mod ExpressionEnds
 pub mod ExpressionSame
 pub mod Refusals
+pub mod LoneLiteral
 pub mod AmountForms
 pub mod AmountLaws

@@ -1,6 +1,6 @@
--- An expression's only hard miss is refusal 3.
+-- An expression's only hard miss is refusal 3, and a literal has none.
 use Prim.Native.Nat.{ℕ, zero, suc, _+_}
-use mathlib.Core.Path.{_≡_, refl}
+use mathlib.Core.Path.{_≡_, refl, subst}
 use mathlib.Core.Bool.{Bool, true, false, cond}
 use mathlib.Core.List.{List}
 use lib.Dec.{eqb}
@@ -11,14 +11,21 @@ use Rattle.text.specs.Answer.{Ans, To, Miss, Hard, _then_, _else_}
 use Rattle.amount.specs.Literal.{plain, literalAs, unsigned, literal}
 use Rattle.amount.specs.Expression.{combined, isPlus, isTimes, goesOn, chain, atom, products, sums, negation, inGroup, closed, group, groups, within, expression}
 
-abbrev pub Three : Ans Value → Type 0
-Three (To e v) = Unit {0}
-Three Miss = Unit {0}
-Three (Hard k p) = k ≡ 3
+-- the numbers of an answer's refusals are such
+abbrev Only : (ℕ → Type 0) → Ans Value → Type 0
+Only P (To e v) = Unit {0}
+Only P Miss = Unit {0}
+Only P (Hard k p) = P k
 
-cond-three : (b : Bool) (x y : Ans Value) → Three x → Three y → Three (cond b x y)
-cond-three true x y p q = p
-cond-three false x y p q = q
+abbrev pub Three : Ans Value → Type 0
+Three = Only (λ k. k ≡ 3)
+
+cond-only : (P : ℕ → Type 0) (b : Bool) (x y : Ans Value) → Only P x → Only P y → Only P (cond b x y)
+cond-only P true x y p q = p
+cond-only P false x y p q = q
+
+abbrev cond-three : (b : Bool) (x y : Ans Value) → Three x → Three y → Three (cond b x y)
+cond-three = cond-only (λ k. k ≡ 3)
 
 else-three : (a b : Ans Value) → Three a → Three b → Three (a else b)
 unfolding _else_
@@ -33,13 +40,17 @@ then-three Miss f p q = tt
 then-three (Hard k i) f p q = p
 
 module _ (s : List ℕ) where
-  unsigned-three : (m : Bool) (b : ℕ) → Three (unsigned m s b)
+  -- a literal is refused by none
+  unsigned-only : (P : ℕ → Type 0) (m : Bool) (b : ℕ) → Only P (unsigned m s b)
   unfolding unsigned literalAs
-  unsigned-three m b = cond-three (plain _) (To _ _) Miss tt tt
+  unsigned-only P m b = cond-only P (plain _) (To _ _) Miss tt tt
 
-  literal-three : (at : ℕ) → Three (literal s at)
+  literal-only : (P : ℕ → Type 0) (at : ℕ) → Only P (literal s at)
   unfolding literal
-  literal-three at = cond-three (eqb (getD s at 0) 45) (unsigned true s (at + 1)) (unsigned false s at) (unsigned-three true (at + 1)) (unsigned-three false at)
+  literal-only P at = cond-only P (eqb (getD s at 0) 45) (unsigned true s (at + 1)) (unsigned false s at) (unsigned-only P true (at + 1)) (unsigned-only P false at)
+
+  pub literal-soft : (at k p : ℕ) → literal s at ≡ Hard k p → ⊥
+  literal-soft at k p e = subst (Only (λ _. ⊥)) e (literal-only (λ _. ⊥) at)
 
   module _ (op : ℕ → Bool) (x : ℕ → Ans Value) (X : (i : ℕ) → Three (x i)) where
     goes-three : (k : ℕ) (v : Value) (e : ℕ) → Three (goesOn op x s k v e)
@@ -59,7 +70,7 @@ module _ (s : List ℕ) where
   module _ (g : ℕ → Ans Value) (G : (i : ℕ) → Three (g i)) where
     atom-three : (at : ℕ) → Three (atom g s at)
     unfolding atom
-    atom-three at = else-three (literal s at) (g at) (literal-three at) (G at)
+    atom-three at = else-three (literal s at) (g at) (literal-only (λ k. k ≡ 3) at) (G at)
 
     products-three : (at : ℕ) → Three (products g s at)
     unfolding products

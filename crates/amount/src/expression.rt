@@ -6,7 +6,9 @@ use text::bytes;
 use text::run;
 use text::run::Class;
 ghost use mathlib.Core.Path.{_≡_};
-ghost use lib.ListN.{length};
+ghost use mathlib.Core.Bool.{_||_};
+ghost use lib.ListN.{length, getD};
+ghost use Rattle.text.specs.Run.{blanks};
 ghost use Rattle.text.specs.Answer.{_then_};
 ghost use Rattle.amount.specs.Expression.{negatedValue, operated, combined, isPlus, isTimes, goesOn, atom, products, sums, negation, closed, group, within, expression};
 ghost use Rattle.amount.specs.steps.Answers.{answerOf, negatedAnswer, closedAnswer};
@@ -232,9 +234,28 @@ fn within_at(s: &[u8], at: usize, left: usize) -> Answer
     }
 }
 
-// Rule 8.
+// Whether an operator stands after blanks.
+fn operator_follows(s: &[u8], at: usize) -> bool
+    ensures { λ r. ⌜ r ≡ (let b = getD (now (s .entry)) (blanks (now (s .entry)) at) 0 in isPlus b || isTimes b) ⌝ }
+{
+    let op = bytes::peek(s, run::run(s, at, Class::Blank));
+    is_plus(op) | is_times(op)
+}
+
+// Rule 8. A literal that no operator follows is all of it.
 pub fn expression_at(s: &[u8], at: usize) -> Answer
     ensures { λ r. ⌜ r ≡ answerOf (expression (now (s .entry)) at) ⌝ }
 {
-    within_at(s, at, GROUPS)
+    let number = literal::literal_at(s, at);
+    match number {
+        Answer::Read(e, v) => {
+            if operator_follows(s, e) {
+                within_at(s, at, GROUPS)
+            } else {
+                Answer::Read(e, v)
+            }
+        }
+        Answer::Miss => within_at(s, at, GROUPS),
+        Answer::Deep(p) => Answer::Deep(p),
+    }
 }
