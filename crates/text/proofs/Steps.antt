@@ -70,6 +70,10 @@ module _ (p : ℕ → Bool) (s : List ℕ) where
   pub run-same : {A : Type 0} (g : ℕ → A) → ((i : ℕ) → i < length s → p (getD s i 0) ≡ true → g i ≡ g (i + 1)) → (i e : ℕ) → e ≡ runTo p s i → g i ≡ g e
   run-same g same = run-ind (λ (i e : ℕ). g i ≡ g e) (λ i h. refl) (λ i h o. refl) (λ i e h o u. same i h o ∙ u)
 
+  -- so a run of a class goes on behind a run of a part of it
+  pub run-behind : (q : ℕ → Bool) → ((b : ℕ) → p b ≡ true → q b ≡ true) → (i e : ℕ) → e ≡ runTo p s i → runTo q s i ≡ runTo q s e
+  run-behind q part = run-same (λ (i : ℕ). runTo q s i) (λ i h o. run-on q s i h (part (getD s i 0) o))
+
   -- a run goes forward and ends inside; it starts with a byte of it, where it is not empty, and ends at one that is not
   pub run-from : (i e : ℕ) → e ≡ runTo p s i → i ≤ e
   run-from = run-ind (λ (i e : ℕ). i ≤ e) (λ i h. omega arith) (λ i h o. omega arith) (λ i e h o u. omega arith)

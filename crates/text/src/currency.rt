@@ -11,7 +11,9 @@ pub fn currency(s: &[u8], at: usize) -> Read
 {
     if at < s.len() {
         if bytes::is_capital(s[at]) {
-            let e = run::run(s, at + 1, Class::Currency);
+            // Capitals alone are the usual case, and their run is the quicker one.
+            let c = run::run(s, at + 1, Class::Capital);
+            let e = run::run(s, c, Class::Currency);
             if bytes::starts_part(bytes::peek(s, e - 1)) {
                 return Read::To(e);
             }

@@ -8,6 +8,7 @@ ghost use Rattle.text.specs.Run.{runTo, inClass};
 pub enum Class {
     Blank,
     Space,
+    Capital,
     Comment,
     Ordinary,
     Account,
@@ -23,6 +24,7 @@ pub fn in_class(k: Class, b: u8) -> bool
     match k {
         Class::Blank => bytes::is_blank(b),
         Class::Space => bytes::is_space(b),
+        Class::Capital => bytes::is_capital(b),
         Class::Comment => bytes::in_comment(b),
         Class::Ordinary => bytes::is_ordinary(b),
         Class::Account => bytes::in_account(b),

@@ -15,6 +15,9 @@ add-run c = search (needs, currency-laws)
 run-requires : tie.Need-run-requires
 run-requires c κs = search (needs, currency-laws)
 
+run-requires-2 : tie.Need-run-requires-2
+run-requires-2 c κs = search (needs, currency-laws)
+
 sub-peek : tie.Need-sub-peek
 sub-peek c = search (needs, currency-laws)
 
@@ -44,6 +47,7 @@ currency-spec =
     is-capital-requires
     add-run
     run-requires
+    run-requires-2
     sub-peek
     peek-requires
     starts-part-requires

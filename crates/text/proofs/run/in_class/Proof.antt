@@ -18,41 +18,47 @@ is-space-requires c κs = search (needs, name-laws)
 enum-told-3 : tie.Need-enum-told-3
 enum-told-3 c = search (needs, name-laws)
 
-in-comment-requires : tie.Need-in-comment-requires
-in-comment-requires c κs = search (needs, name-laws)
+is-capital-requires : tie.Need-is-capital-requires
+is-capital-requires c κs = search (needs, name-laws)
 
 enum-told-4 : tie.Need-enum-told-4
 enum-told-4 c = search (needs, name-laws)
 
-is-ordinary-requires : tie.Need-is-ordinary-requires
-is-ordinary-requires c κs = search (needs, name-laws)
+in-comment-requires : tie.Need-in-comment-requires
+in-comment-requires c κs = search (needs, name-laws)
 
 enum-told-5 : tie.Need-enum-told-5
 enum-told-5 c = search (needs, name-laws)
 
-in-account-requires : tie.Need-in-account-requires
-in-account-requires c κs = search (needs, name-laws)
+is-ordinary-requires : tie.Need-is-ordinary-requires
+is-ordinary-requires c κs = search (needs, name-laws)
 
 enum-told-6 : tie.Need-enum-told-6
 enum-told-6 c = search (needs, name-laws)
 
-in-currency-requires : tie.Need-in-currency-requires
-in-currency-requires c κs = search (needs, name-laws)
+in-account-requires : tie.Need-in-account-requires
+in-account-requires c κs = search (needs, name-laws)
 
 enum-told-7 : tie.Need-enum-told-7
 enum-told-7 c = search (needs, name-laws)
 
-in-tag-requires : tie.Need-in-tag-requires
-in-tag-requires c κs = search (needs, name-laws)
+in-currency-requires : tie.Need-in-currency-requires
+in-currency-requires c κs = search (needs, name-laws)
 
 enum-told-8 : tie.Need-enum-told-8
 enum-told-8 c = search (needs, name-laws)
 
-in-link-requires : tie.Need-in-link-requires
-in-link-requires c κs = search (needs, name-laws)
+in-tag-requires : tie.Need-in-tag-requires
+in-tag-requires c κs = search (needs, name-laws)
 
 enum-told-9 : tie.Need-enum-told-9
 enum-told-9 c = search (needs, name-laws)
+
+in-link-requires : tie.Need-in-link-requires
+in-link-requires c κs = search (needs, name-laws)
+
+enum-told-10 : tie.Need-enum-told-10
+enum-told-10 c = search (needs, name-laws)
 
 in-line-requires : tie.Need-in-line-requires
 in-line-requires c κs = search (needs, name-laws)
@@ -84,6 +90,9 @@ returns-8 c = search (needs, name-laws)
 returns-9 : tie.Need-returns-9
 returns-9 c = search (needs, name-laws)
 
+returns-10 : tie.Need-returns-10
+returns-10 c = search (needs, name-laws)
+
 pub in-class-spec : {M : Type 1} → statement M
 in-class-spec =
     tie.close
@@ -93,18 +102,20 @@ in-class-spec =
     enum-told-2
     is-space-requires
     enum-told-3
-    in-comment-requires
+    is-capital-requires
     enum-told-4
-    is-ordinary-requires
+    in-comment-requires
     enum-told-5
-    in-account-requires
+    is-ordinary-requires
     enum-told-6
-    in-currency-requires
+    in-account-requires
     enum-told-7
-    in-tag-requires
+    in-currency-requires
     enum-told-8
-    in-link-requires
+    in-tag-requires
     enum-told-9
+    in-link-requires
+    enum-told-10
     in-line-requires
     returns
     returns-2
@@ -114,4 +125,5 @@ in-class-spec =
     returns-6
     returns-7
     returns-8
-    returns-9)
+    returns-9
+    returns-10)
