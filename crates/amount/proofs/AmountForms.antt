@@ -41,7 +41,7 @@ module _ (k : ℕ) (s : List ℕ) (at e : ℕ) (v : Value) (g : Read) (p : g ≡
 
 -- ---- a required amount: x is the expression's answer
 
-deep-three : (a : Ans Value) (x : Answer) (i : ℕ) → Three a → x ≡ answerOf a → x ≡ Answer.Deep i → a ≡ Hard 3 i
+pub deep-three : (a : Ans Value) (x : Answer) (i : ℕ) → Three a → x ≡ answerOf a → x ≡ Answer.Deep i → a ≡ Hard 3 i
 deep-three a x i T p q = let h = was-deep a x i p q in h .1 ∙ ap (λ k. Hard k i) (subst Three (h .1) T)
 
 module _ (k : ℕ) (s : List ℕ) (at : ℕ) (x : Answer) (p : x ≡ answerOf (expression s at)) where

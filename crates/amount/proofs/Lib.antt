@@ -10,3 +10,5 @@ pub mod Refusals
 pub mod LoneLiteral
 pub mod AmountForms
 pub mod AmountLaws
+pub mod RowCounts
+pub mod AmountFew

@@ -1,0 +1,13 @@
+pub mod PostingEnds
+pub mod PostingFew
+pub mod OneRows
+pub mod ManyLaws
+pub mod MetaLaws
+pub mod MetaWrites
+pub mod LotLaws
+pub mod LotWrites
+pub mod FlagLaws
+pub mod FewRows
+pub mod PostWrites
+pub mod CountLaws
+pub mod BodyWrites

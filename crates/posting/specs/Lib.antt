@@ -1,0 +1,4 @@
+pub mod Metadata
+pub mod Costs
+pub mod Postings
+pub mod steps

@@ -1,0 +1,13 @@
+pub mod FieldLaws
+pub mod PourLaws
+pub mod TableLaws
+pub mod CopyLaws
+pub mod WriteLaws
+pub mod LineLaws
+pub mod SweepLaws
+pub mod OutLaws
+pub mod SureLaws
+pub mod DidLaws
+pub mod TokenLaws
+pub mod ManyLaws
+pub mod TriedLaws

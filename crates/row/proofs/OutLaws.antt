@@ -1,0 +1,67 @@
+-- Laws of what the row writer holds, and of details that were written.
+use Prim.Native.Nat.{ℕ, _+_}
+use native.Mathlib.Nat.{add-zero}
+use native.Mathlib.Omega.{arith}
+use mathlib.Core.Path.{_≡_, refl, sym, _∙_, ap}
+use mathlib.Core.Bool.{Bool, true, false}
+use mathlib.Core.List.{List, [], _∷_, _++_, map, map-append}
+use lib.Dec.{eqb}
+use lib.ListN.{length, length-map}
+use Rattle.decimal.specs.declared.Value.{Value}
+use Rattle.decimal.specs.declared.Value.the-variants.{Known, Refused}
+use Rattle.amount.specs.declared.detail.Detail.{Detail}
+use Rattle.row.specs.Row.{pourAt}
+use Rattle.row.specs.Details.{laid}
+use Rattle.row.specs.steps.Writing.{noted, outs}
+use Rattle.row.specs.declared.writer.Out.{Out}
+use Rattle.row.proofs.PourLaws.{pourAt-none, pourAt-append}
+
+pub outs-append : (xs ys : List Detail) (o : Out) → outs o (xs ++ ys) ≡ outs (outs o xs) ys
+unfolding outs
+outs-append [] ys o = refl
+outs-append (d ∷ xs) ys o = outs-append xs ys (noted o d)
+
+-- a detail is one row more, whether its value is known or refused
+pub rows-noted : (o : Out) (d : Detail) → (noted o d) .rows ≡ o .rows + 1
+unfolding noted
+rows-noted o d = go (d .value) refl (eqb (o .bad) 0) refl
+  where
+    go : (v : Value) → d .value ≡ v → (b : Bool) → eqb (o .bad) 0 ≡ b → (noted o d) .rows ≡ o .rows + 1
+    go (Known x) e b f = rw e
+    go (Refused n) e true f = rw (e, f)
+    go (Refused n) e false f = rw (e, f)
+
+pub rows-outs : (ds : List Detail) (o : Out) → (outs o ds) .rows ≡ o .rows + length ds
+unfolding outs
+rows-outs [] o = rw add-zero
+rows-outs (d ∷ ds) o = omega (arith, rows-outs ds (noted o d), rows-noted o d)
+
+-- ---- details ds were written where o was held and t was the table: now m is held, and v is the table
+
+abbrev pub Wrote : ℕ → Out → List ℕ → List Detail → Out → List ℕ → Type 0
+Wrote base o t ds m v = (m ≡ outs o ds) × (v ≡ pourAt (o .rows) (map (laid base) ds) t)
+
+module _ (base : ℕ) (o : Out) (t : List ℕ) where
+  pub wrote-none : Wrote base o t [] o t
+  unfolding outs
+  wrote-none = (refl, sym (pourAt-none (o .rows) t))
+
+  pub wrote-one : (d : Detail) (m : Out) (v : List ℕ) → m ≡ noted o d → v ≡ pourAt (o .rows) (laid base d ∷ []) t
+      → Wrote base o t (d ∷ []) m v
+  unfolding outs
+  wrote-one d m v e f = (e, f)
+
+  pub wrote-then : (xs ys : List Detail) (m n : Out) (v u : List ℕ) → Wrote base o t xs m v → Wrote base m v ys n u
+      → Wrote base o t (xs ++ ys) n u
+  wrote-then xs ys m n v u w h = (
+    h .0 ∙ ap (λ (z : Out). outs z ys) (w .0) ∙ sym (outs-append xs ys o),
+    h .1
+        ∙ rw (
+          w .1,
+          w .0,
+          rows-outs xs o,
+          map-append (laid base) xs ys,
+          pourAt-append (map (laid base) xs) (map (laid base) ys) (o .rows) t,
+          length-map xs (laid base),
+        ),
+  )

@@ -1,0 +1,139 @@
+-- Laws by which code that writes rows follows tokens, which make no row. The code read x where the rule has y.
+use Prim.Native.Nat.{ℕ}
+use mathlib.Core.Path.{_≡_, refl}
+use mathlib.Core.List.{List, []}
+use Rattle.text.specs.Answer.{Ans, To, Miss, Hard, _then_, must, _and_, maybe}
+use Rattle.text.specs.Leaves.{token, named}
+use Rattle.text.specs.declared.Read.{Read}
+use Rattle.text.specs.declared.account.AccountRead.{AccountRead}
+use Rattle.amount.specs.Details.{Rows}
+use Rattle.row.specs.steps.Writing.{Did}
+use Rattle.row.specs.declared.writer.Out.{Out}
+use Rattle.row.specs.declared.writer.Ran.{Ran}
+use Rattle.row.proofs.DidLaws.{did-none, did-bare}
+
+module _ (base : ℕ) (o : Out) (t : List ℕ) where
+  -- ---- an answer without rows, and then g
+
+  module _ (a : Rows) (g : ℕ → Rows) where
+    pub bare-read : (e : ℕ) (u : List ℕ) (q : Ran) → a ≡ To e [] → Did base (g e) o t u q → Did base (a and g) o t u q
+    unfolding _and_
+    bare-read e u q h k = rw h (did-bare base (g e) o t u q k)
+
+    pub bare-miss : a ≡ Miss → Did base (a and g) o t t Ran.Miss
+    unfolding _and_
+    bare-miss h = rw h (refl, refl)
+
+    pub bare-hard : (k p : ℕ) (u : List ℕ) → a ≡ Hard k p → Did base (a and g) o t u (Ran.Hard k p)
+    unfolding _and_
+    bare-hard k p u h = rw h refl
+
+  -- ---- an answer with a value, and then f
+
+  module _ {A : Type 0} (a : Ans A) (f : ℕ → A → Rows) where
+    pub then-read : (e : ℕ) (z : A) (u : List ℕ) (q : Ran) → a ≡ To e z → Did base (f e z) o t u q → Did base (a then f) o t u q
+    unfolding _then_
+    then-read e z u q h k = rw h k
+
+    pub then-miss : a ≡ Miss → Did base (a then f) o t t Ran.Miss
+    unfolding _then_
+    then-miss h = rw h (refl, refl)
+
+    pub then-hard : (k p : ℕ) (u : List ℕ) → a ≡ Hard k p → Did base (a then f) o t u (Ran.Hard k p)
+    unfolding _then_
+    then-hard k p u h = rw h refl
+
+  -- ---- a token
+
+  module _ (x y : Read) (v : x ≡ y) where
+    module _ (g : ℕ → Rows) where
+      pub token-read : (e : ℕ) (u : List ℕ) (q : Ran) → x ≡ Read.To e → Did base (g e) o t u q → Did base (token y and g) o t u q
+      unfolding token
+      token-read e u q h = bare-read (token y) g e u q (rw (← v, h))
+
+      pub token-miss : x ≡ Read.Miss → Did base (token y and g) o t t Ran.Miss
+      unfolding token
+      token-miss h = bare-miss (token y) g (rw (← v, h))
+
+      pub must-token-read : (i e : ℕ) (u : List ℕ) (q : Ran) → x ≡ Read.To e → Did base (g e) o t u q
+          → Did base (must i (token y) and g) o t u q
+      unfolding token must
+      must-token-read i e u q h = bare-read (must i (token y)) g e u q (rw (← v, h))
+
+      pub must-token-miss : (i : ℕ) (u : List ℕ) → x ≡ Read.Miss → Did base (must i (token y) and g) o t u (Ran.Hard 4 i)
+      unfolding token must
+      must-token-miss i u h = bare-hard (must i (token y)) g 4 i u (rw (← v, h))
+
+      pub maybe-token-read : (i e : ℕ) (u : List ℕ) (q : Ran) → x ≡ Read.To e → Did base (g e) o t u q
+          → Did base (maybe i (token y) and g) o t u q
+      unfolding token maybe
+      maybe-token-read i e u q h = bare-read (maybe i (token y)) g e u q (rw (← v, h))
+
+      pub maybe-token-miss : (i : ℕ) (u : List ℕ) (q : Ran) → x ≡ Read.Miss → Did base (g i) o t u q
+          → Did base (maybe i (token y) and g) o t u q
+      unfolding token maybe
+      maybe-token-miss i u q h = bare-read (maybe i (token y)) g i u q (rw (← v, h))
+
+    -- with nothing after it
+    pub token-end : (e : ℕ) → x ≡ Read.To e → Did base (token y) o t t (Ran.To e o)
+    unfolding token
+    token-end e h = rw (← v, h) (did-none base o t e)
+
+    pub token-end-miss : x ≡ Read.Miss → Did base (token y) o t t Ran.Miss
+    unfolding token
+    token-end-miss h = rw (← v, h) (refl, refl)
+
+    pub must-token-end : (i e : ℕ) → x ≡ Read.To e → Did base (must i (token y)) o t t (Ran.To e o)
+    unfolding token must
+    must-token-end i e h = rw (← v, h) (did-none base o t e)
+
+    pub must-token-end-miss : (i : ℕ) (u : List ℕ) → x ≡ Read.Miss → Did base (must i (token y)) o t u (Ran.Hard 4 i)
+    unfolding token must
+    must-token-end-miss i u h = rw (← v, h) refl
+
+  -- ---- an account
+
+  module _ (at : ℕ) (x y : AccountRead) (v : x ≡ y) (g : ℕ → Rows) where
+    pub account-read : (e : ℕ) (u : List ℕ) (q : Ran) → x ≡ AccountRead.To e → Did base (g e) o t u q → Did base (named at y and g) o t u q
+    unfolding named
+    account-read e u q h = bare-read (named at y) g e u q (rw (← v, h))
+
+    pub account-miss : x ≡ AccountRead.Miss → Did base (named at y and g) o t t Ran.Miss
+    unfolding named
+    account-miss h = bare-miss (named at y) g (rw (← v, h))
+
+    pub account-hard : (u : List ℕ) → x ≡ AccountRead.Hard → Did base (named at y and g) o t u (Ran.Hard 4 at)
+    unfolding named
+    account-hard u h = bare-hard (named at y) g 4 at u (rw (← v, h))
+
+    pub must-account-read : (i e : ℕ) (u : List ℕ) (q : Ran) → x ≡ AccountRead.To e → Did base (g e) o t u q
+        → Did base (must i (named at y) and g) o t u q
+    unfolding named must
+    must-account-read i e u q h = bare-read (must i (named at y)) g e u q (rw (← v, h))
+
+    pub must-account-miss : (i : ℕ) (u : List ℕ) → x ≡ AccountRead.Miss → Did base (must i (named at y) and g) o t u (Ran.Hard 4 i)
+    unfolding named must
+    must-account-miss i u h = bare-hard (must i (named at y)) g 4 i u (rw (← v, h))
+
+    pub must-account-hard : (i : ℕ) (u : List ℕ) → x ≡ AccountRead.Hard → Did base (must i (named at y) and g) o t u (Ran.Hard 4 at)
+    unfolding named must
+    must-account-hard i u h = bare-hard (must i (named at y)) g 4 at u (rw (← v, h))
+
+pub ruleset tokens = (
+  token-read,
+  token-miss,
+  must-token-read,
+  must-token-miss,
+  maybe-token-read,
+  maybe-token-miss,
+  token-end,
+  token-end-miss,
+  must-token-end,
+  must-token-end-miss,
+  account-read,
+  account-miss,
+  account-hard,
+  must-account-read,
+  must-account-miss,
+  must-account-hard,
+)

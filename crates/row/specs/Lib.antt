@@ -1,0 +1,4 @@
+pub mod Field
+pub mod Row
+pub mod Details
+pub mod steps

@@ -1,0 +1,17 @@
+-- The lines of rows that stand in a table already. A law shows that they are the lines of the rows.
+use Prim.Native.Nat.{ℕ, zero, suc, _+_}
+use mathlib.Core.Bool.{cond}
+use mathlib.Core.List.{List, _++_}
+use lib.Dec.{leb}
+use lib.ListN.{length, take, drop}
+use Rattle.row.specs.Field.{le, un}
+use Rattle.row.specs.Row.{width, feeds}
+
+-- the bytes of a row with its line: one plus the line feeds of s before the start that stands in the row
+unfoldable pub lineSet : List ℕ → List ℕ → List ℕ
+lineSet s r = take 12 r ++ (le 4 (1 + feeds (take (un (take 4 (drop 4 r))) s)) ++ drop 16 r)
+
+-- the same of the first n rows of a table, each where a whole row is there
+unfoldable pub linesSet : List ℕ → ℕ → List ℕ → List ℕ
+linesSet s zero t = t
+linesSet s (suc n) t = cond (leb width (length t)) (lineSet s (take width t) ++ linesSet s n (drop width t)) t

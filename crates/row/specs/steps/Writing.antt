@@ -1,0 +1,43 @@
+-- What the row writer holds, and what a reader that writes has done.
+use Prim.Native.Nat.{ℕ, _+_}
+use mathlib.Core.Bool.{cond}
+use mathlib.Core.List.{List, [], _∷_, map}
+use mathlib.Core.Path.{_≡_}
+use lib.Dec.{eqb}
+use Rattle.decimal.specs.declared.Value.{Value}
+use Rattle.decimal.specs.declared.Value.the-variants.{Known, Refused}
+use Rattle.text.specs.Answer.{Ans, To, Miss, Hard}
+use Rattle.amount.specs.declared.detail.Detail.{Detail}
+use Rattle.amount.specs.Details.{Rows}
+use Rattle.row.specs.declared.writer.Out.{Out}
+use Rattle.row.specs.declared.writer.Ran.{Ran}
+use Rattle.row.specs.Row.{pourAt}
+use Rattle.row.specs.Details.{laid, valuePlace}
+
+-- one row more
+abbrev pub more : Out → Out
+more o = record { rows = o .rows + 1; bad = o .bad; place = o .place }
+
+-- the first refused value is kept: `bad` is one plus its number, 0 for none
+unfoldable pub noted : Out → Detail → Out
+noted o d =
+    elim (d .value) [
+      | Known x ↦ more o
+      | Refused n ↦ cond (eqb (o .bad) 0) (record { rows = o .rows + 1; bad = n + 1; place = valuePlace d }) (more o)
+    ]
+
+unfoldable pub outs : Out → List Detail → Out
+outs o [] = o
+outs o (d ∷ ds) = outs (noted o d) ds
+
+-- what was done for the answer a of a rule, where o was held and t was the table: u is the table now, r the code's answer. A miss writes nothing.
+abbrev pub Did : ℕ → Rows → Out → List ℕ → List ℕ → Ran → Type 0
+Did base (To e ds) o t u r = (r ≡ Ran.To e (outs o ds)) × (u ≡ pourAt (o .rows) (map (laid base) ds) t)
+Did base Miss o t u r = (r ≡ Ran.Miss) × (u ≡ t)
+Did base (Hard k p) o t u r = r ≡ Ran.Hard k p
+
+-- the same into a table that is given up where the reader misses
+abbrev pub Tried : ℕ → Rows → Out → List ℕ → List ℕ → Ran → Type 0
+Tried base (To e ds) o t u r = (r ≡ Ran.To e (outs o ds)) × (u ≡ pourAt (o .rows) (map (laid base) ds) t)
+Tried base Miss o t u r = r ≡ Ran.Miss
+Tried base (Hard k p) o t u r = r ≡ Ran.Hard k p

@@ -1,0 +1,5 @@
+// The row table, and the row writer.
+mod field;
+pub mod lines;
+pub mod table;
+pub mod writer;

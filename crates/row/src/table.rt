@@ -1,0 +1,111 @@
+// The 32-byte row, and rows written from the front of a table.
+use crate::field;
+ghost use mathlib.Core.Path.{_≡_};
+ghost use mathlib.Core.List.{[], _∷_};
+ghost use Prim.Native.Nat.{_+_, _/_, _≤_};
+ghost use lib.Dec.{ltb};
+ghost use lib.ListN.{length, take, drop};
+ghost use Rattle.row.specs.Field.{fieldAt};
+ghost use Rattle.row.specs.Row.{placeOf, pour, pourAt};
+ghost use Rattle.row.specs.steps.Copying.{rowCopied, copied};
+
+pub struct Row {
+    pub kind: usize,
+    pub start: usize,
+    pub end: usize,
+    pub line: usize,
+    pub p: usize,
+    pub q: usize,
+    // The value's eight bytes: two's complement.
+    pub bits: usize,
+}
+
+// A row's bytes.
+pub const WIDTH: usize = 32;
+
+// Whether row n fits into a table of so many bytes.
+pub fn fits(n: usize, size: usize) -> bool
+    ensures { λ r. ⌜ r ≡ ltb n (size / 32) ⌝ }
+{
+    n < size / WIDTH
+}
+
+// Where row n starts in a table of so many bytes, or the table's end.
+pub fn place(n: usize, size: usize) -> usize
+    ensures { λ r. ⌜ r ≡ placeOf n size ⌝ }
+{
+    if n <= size / WIDTH { n * WIDTH } else { size }
+}
+
+// One row at the front of the table, where a whole row fits.
+pub fn put_front(t: &mut [u8], r: Row)
+    ensures { λ _. ⌜ now (t .exit) ≡ pour (r ∷ []) (now (t .entry)) ⌝ }
+{
+    if t.len() < WIDTH {
+        return;
+    }
+    field::put(t, 0, 4, r.kind);
+    field::put(t, 4, 4, r.start);
+    field::put(t, 8, 4, r.end);
+    field::put(t, 12, 4, r.line);
+    field::put(t, 16, 4, r.p);
+    field::put(t, 20, 4, r.q);
+    field::put(t, 24, 8, r.bits);
+}
+
+// One row as row n: the rest of the table, from there, is lent on.
+pub fn put_row(t: &mut [u8], n: usize, r: Row)
+    ensures { λ _. ⌜ now (t .exit) ≡ pourAt n (r ∷ []) (now (t .entry)) ⌝ }
+{
+    let at = place(n, t.len());
+    put_front(&mut t[at..], r);
+}
+
+// The number in the `width` bytes at `at`, or 0 where they are more than eight or not all in the table.
+pub fn field_at(t: &[u8], at: usize, width: usize) -> usize
+    ensures { λ r. ⌜ r ≡ fieldAt (now (t .entry)) at width ⌝ }
+{
+    if 8 < width {
+        return 0;
+    }
+    if t.len() < at {
+        return 0;
+    }
+    if t.len() - at < width {
+        return 0;
+    }
+    field::get(t, at, width)
+}
+
+// The row whose bytes start at `from` in one table, as row n of another, where it fits.
+fn copy_row(rows: &[u8], from: usize, t: &mut [u8], n: usize)
+    requires { ⌜ from + 32 ≤ length (now rows) ⌝ }
+    ensures { λ _. ⌜ now (t .exit) ≡ rowCopied (take 32 (drop from (now (rows .entry)))) n (now (t .entry)) ⌝ }
+{
+    if n < t.len() / WIDTH {
+        let to = n * WIDTH;
+        let mut i = 0;
+        while i < WIDTH {
+            t[to + i] = rows[from + i];
+            i += 1;
+        }
+    }
+}
+
+// The first n rows of a table, as the rows from k on of another, where they fit.
+pub fn copy_rows(rows: &[u8], n: usize, t: &mut [u8], k: usize)
+    ensures { λ _. ⌜ now (t .exit) ≡ copied (now (rows .entry)) n k (now (t .entry)) ⌝ }
+{
+    if t.len() < k {
+        return;
+    }
+    let mut i = 0;
+    while i < n {
+        if i < rows.len() / WIDTH {
+            copy_row(rows, i * WIDTH, t, k + i);
+        } else {
+            return;
+        }
+        i += 1;
+    }
+}

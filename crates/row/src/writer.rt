@@ -1,0 +1,132 @@
+// The row writer: rows after those already there, and the first refused value.
+use crate::table;
+use crate::table::Row;
+use amount::detail::Detail;
+use decimal::Value;
+ghost use mathlib.Core.Path.{_≡_};
+ghost use mathlib.Core.List.{[], _∷_};
+ghost use Prim.Native.Nat.{_+_, _≤_};
+ghost use Rattle.decimal.specs.Exact.{twosOf};
+ghost use Rattle.row.specs.Row.{rowBytes, pourAt};
+ghost use Rattle.row.specs.Details.{spanned, millionths, laid, valuePlace};
+ghost use Rattle.row.specs.steps.Writing.{noted};
+
+// So many rows are there; one plus the number of the first refused value, 0 for none, and its place.
+pub struct Out {
+    pub rows: usize,
+    pub bad: usize,
+    pub place: usize,
+}
+
+// What a reader that writes answers.
+pub enum Ran {
+    To(usize, Out),
+    Miss,
+    Hard(usize, usize),
+}
+
+// Kinds whose p and q are a span.
+fn is_spanned(kind: usize) -> bool
+    ensures { λ r. ⌜ r ≡ spanned kind ⌝ }
+{
+    (kind == 26) | (kind == 29) | (kind == 30) | (kind == 35) | (kind == 36) | (kind == 37)
+}
+
+fn wide(n: u64) -> usize
+    ensures { λ r. ⌜ r ≡ n ⌝ }
+{
+    n as usize
+}
+
+fn number(n: u8) -> usize
+    ensures { λ r. ⌜ r ≡ n ⌝ }
+{
+    n as usize
+}
+
+fn value_bits(v: Value) -> usize
+    ensures { λ r. ⌜ r ≡ twosOf (millionths v) ⌝ }
+{
+    match v {
+        Value::Known(d) => wide(decimal::row_bits(d)),
+        Value::Refused(_) => 0,
+    }
+}
+
+// The row of a detail of an entry that starts at `base`: the low four bytes of each place are as they should be.
+fn row_of(x: Detail, base: usize) -> Row
+    requires { ⌜ base ≤ 16777216 ⌝ }
+    ensures { λ r. ⌜ rowBytes r ≡ rowBytes (laid base x) ⌝ }
+{
+    let kind = x.kind;
+    let start = base + x.start % 4294967296;
+    let end = base + x.end % 4294967296;
+    let v = x.value;
+    let bits = value_bits(v);
+    if is_spanned(kind) {
+        return Row {
+            kind,
+            start,
+            end,
+            line: 0,
+            p: base + x.p % 4294967296,
+            q: base + x.q % 4294967296,
+            bits,
+        };
+    }
+    Row {
+        kind,
+        start,
+        end,
+        line: 0,
+        p: x.p,
+        q: x.q,
+        bits,
+    }
+}
+
+// Where a value's refusal is placed: the start of its expression.
+fn value_place(x: Detail) -> usize
+    ensures { λ r. ⌜ r ≡ valuePlace x ⌝ }
+{
+    if x.kind == 36 { x.p } else { x.start }
+}
+
+// One row more; the first refused value is kept.
+fn note(out: Out, x: Detail) -> Out
+    requires { ⌜ out .rows ≤ 33554432 ⌝ }
+    ensures { λ r. ⌜ r ≡ noted out x ⌝ }
+{
+    let rows = out.rows + 1;
+    let bad = out.bad;
+    let place = out.place;
+    let v = x.value;
+    match v {
+        Value::Known(_) => Out { rows, bad, place },
+        Value::Refused(n) => {
+            if bad == 0 {
+                Out {
+                    rows,
+                    bad: number(n) + 1,
+                    place: value_place(x),
+                }
+            } else {
+                Out { rows, bad, place }
+            }
+        }
+    }
+}
+
+// A detail of the entry that starts at `base` is written, where there is room for it.
+pub fn emit(table: &mut [u8], base: usize, out: Out, x: Detail) -> Out
+    requires { ⌜ (base ≤ 16777216) × (out .rows ≤ 33554432) ⌝ }
+    ensures answer { λ r. ⌜ r ≡ noted out x ⌝ }
+    ensures rows { λ _. ⌜ now (table .exit) ≡ pourAt (out .rows) (laid base x ∷ []) (now (table .entry)) ⌝ }
+{
+    let k = out.rows;
+    if table::fits(k, table.len()) {
+        let r = row_of(x, base);
+        table::put_row(table, k, r);
+    }
+    note(out, x)
+}
