@@ -1,18 +1,19 @@
 -- Laws of what the row writer holds, and of details that were written.
-use Prim.Native.Nat.{ℕ, _+_}
+use Prim.Native.Nat.{ℕ, _+_, _≤_}
 use native.Mathlib.Nat.{add-zero}
 use native.Mathlib.Omega.{arith}
 use mathlib.Core.Path.{_≡_, refl, sym, _∙_, ap}
 use mathlib.Core.Bool.{Bool, true, false}
 use mathlib.Core.List.{List, [], _∷_, _++_, map, map-append}
 use lib.Dec.{eqb}
+use borrow.Author.Tests.{eq-eqb, ne-eqb}
 use lib.ListN.{length, length-map}
 use Rattle.decimal.specs.declared.Value.{Value}
 use Rattle.decimal.specs.declared.Value.the-variants.{Known, Refused}
 use Rattle.amount.specs.declared.detail.Detail.{Detail}
 use Rattle.row.specs.Row.{pourAt}
 use Rattle.row.specs.Details.{laid}
-use Rattle.row.specs.steps.Writing.{noted, outs}
+use Rattle.row.specs.steps.Writing.{noted, outs, someRow}
 use Rattle.row.specs.declared.writer.Out.{Out}
 use Rattle.row.proofs.PourLaws.{pourAt-none, pourAt-append}
 
@@ -65,3 +66,21 @@ module _ (base : ℕ) (o : Out) (t : List ℕ) where
           length-map xs (laid base),
         ),
   )
+
+-- there is room for another row
+pub noted-room : (o m : Out) (d : Detail) → m ≡ noted o d → o .rows ≤ 33554431 → m .rows ≤ 33554432
+noted-room o m d e h = omega (arith, ap (λ (z : Out). z .rows) e, rows-noted o d)
+
+-- ---- a row, and another, if it is one: p is held after the first, v is the table then
+
+module _ (base : ℕ) (o : Out) (t : List ℕ) (x n : Detail) (p : Out) (v : List ℕ) (e : p ≡ noted o x) (f : v ≡ pourAt (o .rows) (laid base x ∷ []) t) where
+  pub with-none : n .kind ≡ 0 → Wrote base o t (x ∷ someRow n) p v
+  unfolding someRow
+  with-none h = rw (eq-eqb (n .kind) 0 h) (wrote-one base o t x p v e f)
+
+  pub with-one : (m : Out) (u : List ℕ) → (n .kind ≡ 0 → ⊥) → m ≡ noted p n → u ≡ pourAt (p .rows) (laid base n ∷ []) v → Wrote base o t (x ∷ someRow n) m u
+  unfolding someRow
+  with-one m u h q r =
+      rw (ne-eqb (n .kind) 0 h) (wrote-then base o t (x ∷ []) (n ∷ []) p m v u (wrote-one base o t x p v e f) (wrote-one base p v n m u q r))
+
+pub ruleset with-laws = (noted-room, with-none, with-one)

@@ -4,12 +4,12 @@ use crate::table::Row;
 use amount::detail::Detail;
 use decimal::Value;
 ghost use mathlib.Core.Path.{_≡_};
-ghost use mathlib.Core.List.{[], _∷_};
+ghost use mathlib.Core.List.{[], _∷_, map};
 ghost use Prim.Native.Nat.{_+_, _≤_};
 ghost use Rattle.decimal.specs.Exact.{twosOf};
 ghost use Rattle.row.specs.Row.{rowBytes, pourAt};
 ghost use Rattle.row.specs.Details.{spanned, millionths, laid, valuePlace};
-ghost use Rattle.row.specs.steps.Writing.{noted};
+ghost use Rattle.row.specs.steps.Writing.{noted, outs, someRow};
 
 // So many rows are there; one plus the number of the first refused value, 0 for none, and its place.
 pub struct Out {
@@ -129,4 +129,17 @@ pub fn emit(table: &mut [u8], base: usize, out: Out, x: Detail) -> Out
         table::put_row(table, k, r);
     }
     note(out, x)
+}
+
+// A row, and another, if it is one.
+pub fn emit_with(table: &mut [u8], base: usize, out: Out, x: Detail, n: Detail) -> Out
+    requires { ⌜ (base ≤ 16777216) × (out .rows ≤ 33554431) ⌝ }
+    ensures answer { λ r. ⌜ r ≡ outs out (x ∷ someRow n) ⌝ }
+    ensures rows { λ _. ⌜ now (table .exit) ≡ pourAt (out .rows) (map (laid base) (x ∷ someRow n)) (now (table .entry)) ⌝ }
+{
+    let o = emit(table, base, out, x);
+    if n.kind == 0 {
+        return o;
+    }
+    emit(table, base, o, n)
 }

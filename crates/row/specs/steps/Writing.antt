@@ -26,6 +26,10 @@ noted o d =
       | Refused n ↦ cond (eqb (o .bad) 0) (record { rows = o .rows + 1; bad = n + 1; place = valuePlace d }) (more o)
     ]
 
+-- a row, if it is one
+unfoldable pub someRow : Detail → List Detail
+someRow d = cond (eqb (d .kind) 0) [] (d ∷ [])
+
 unfoldable pub outs : Out → List Detail → Out
 outs o [] = o
 outs o (d ∷ ds) = outs (noted o d) ds

@@ -1,0 +1,5 @@
+pub mod Transaction
+pub mod Directive
+pub mod Forms
+pub mod Entry
+pub mod steps

@@ -1,0 +1,63 @@
+-- Forms of an entry, as the code reads them: its enums of a rule's answer, and what was done.
+use Prim.Native.Nat.{ℕ}
+use mathlib.Core.List.{List, map}
+use mathlib.Core.Path.{_≡_}
+use Rattle.text.specs.Bytes.{bytes}
+use Rattle.text.specs.Words.{wordAt}
+use Rattle.text.specs.Answer.{Ans, To, Miss, Hard, _and_, _else_}
+use Rattle.text.specs.declared.Read.{Read}
+use Rattle.amount.specs.Details.{Rows}
+use Rattle.amount.specs.Amounts.{hardGap, hardCurrency, priceOf}
+use Rattle.row.specs.declared.writer.Out.{Out}
+use Rattle.row.specs.declared.writer.Ran.{Ran}
+use Rattle.row.specs.Row.{pourAt}
+use Rattle.row.specs.Details.{laid}
+use Rattle.row.specs.steps.Writing.{outs}
+use Rattle.entry.specs.Directive.{hardAccount, balanceOf, openOf, padOf, eventOf, keyword}
+use Rattle.entry.specs.Forms.{Form, asEntry}
+use Rattle.entry.specs.steps.Contents.{contentEnd}
+use Rattle.entry.specs.declared.directive.Formed.{Formed}
+use Rattle.entry.specs.declared.directive.Keyword.{Keyword}
+
+-- a keyword of a kind, or what the next gives
+unfoldable pub orKeyword : ℕ → Read → Keyword → Keyword
+orKeyword k (Read.To e) next = Keyword.Read k e
+orKeyword k Read.Miss next = next
+
+unfoldable pub lateKeyword : List ℕ → ℕ → Keyword
+lateKeyword s at =
+    orKeyword 11 (wordAt (bytes "pad") s at) (orKeyword 12 (wordAt (bytes "commodity") s at) (orKeyword 13 (wordAt (bytes "event") s at) Keyword.Miss))
+
+unfoldable pub middleKeyword : List ℕ → ℕ → Keyword
+middleKeyword s at = orKeyword 9 (wordAt (bytes "open") s at) (orKeyword 10 (wordAt (bytes "close") s at) (lateKeyword s at))
+
+unfoldable pub keywordAt : List ℕ → ℕ → Keyword
+keywordAt s at = orKeyword 7 (wordAt (bytes "price") s at) (orKeyword 8 (wordAt (bytes "balance") s at) (middleKeyword s at))
+
+unfoldable pub gapContent : ℕ → List ℕ → ℕ → Rows
+gapContent k s at = hardGap s at and λ g. contentEnd k s g
+
+-- the seven keywords with their contents
+unfoldable pub byKeyword : ℕ → List ℕ → ℕ → Ans Form
+byKeyword d s g =
+    let price = asEntry 7 d (keyword "price" priceOf s g) in
+    let balance = asEntry 8 d (keyword "balance" balanceOf s g) in
+    let opens = asEntry 9 d (keyword "open" openOf s g) in
+    let close = asEntry 10 d (keyword "close" hardAccount s g) in
+    let pad = asEntry 11 d (keyword "pad" padOf s g) in
+    let commodity = asEntry 12 d (keyword "commodity" hardCurrency s g) in
+    let event = asEntry 13 d (keyword "event" eventOf s g) in
+    price else balance else opens else close else pad else commodity else event
+
+-- the code's enum of what a reader that writes answered
+unfoldable pub formedOf : ℕ → ℕ → Ran → Formed
+formedOf k d (Ran.To e o) = Formed.Read k d e o
+formedOf k d Ran.Miss = Formed.Miss
+formedOf k d (Ran.Hard n p) = Formed.Hard n p
+
+-- what was done for a form: as Did of row
+abbrev pub DidForm : ℕ → Ans Form → Out → List ℕ → List ℕ → Formed → Type 0
+DidForm base (To e f) o t u r =
+    (r ≡ Formed.Read (f .kind) (f .date) e (outs o (f .details))) × (u ≡ pourAt (o .rows) (map (laid base) (f .details)) t)
+DidForm base Miss o t u r = (r ≡ Formed.Miss) × (u ≡ t)
+DidForm base (Hard k p) o t u r = r ≡ Formed.Hard k p

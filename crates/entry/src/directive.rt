@@ -1,0 +1,183 @@
+// Directives (rule 4).
+use crate::content;
+use crate::transaction;
+use posting::metadata;
+use row::writer::Out;
+use row::writer::Ran;
+use text::Read;
+use text::date;
+use text::date::Dated;
+use text::line;
+use text::word;
+ghost use mathlib.Core.Path.{_≡_};
+ghost use Prim.Native.Nat.{_≤_};
+ghost use lib.ListN.{length};
+ghost use Rattle.row.specs.steps.Writing.{Did};
+ghost use Rattle.entry.specs.Forms.{dateless, directive};
+ghost use Rattle.entry.specs.steps.Contents.{contentEnd};
+ghost use Rattle.entry.specs.steps.Formed.{keywordAt, middleKeyword, lateKeyword, formedOf, DidForm, gapContent, byKeyword};
+
+// A keyword: its entry's kind, and where it ends.
+pub enum Keyword {
+    Read(usize, usize),
+    Miss,
+}
+
+// A form of an entry: its kind, its date or 0, where it ends, and what was written.
+pub enum Formed {
+    Read(usize, usize, usize, Out),
+    Miss,
+    Hard(usize, usize),
+}
+
+fn late_keyword(s: &[u8], at: usize) -> Keyword
+    ensures { λ r. ⌜ r ≡ lateKeyword (now (s .entry)) at ⌝ }
+{
+    let a = word::word(s, at, b"pad");
+    match a {
+        Read::To(e) => Keyword::Read(11, e),
+        Read::Miss => {
+            let b = word::word(s, at, b"commodity");
+            match b {
+                Read::To(e) => Keyword::Read(12, e),
+                Read::Miss => {
+                    let c = word::word(s, at, b"event");
+                    match c {
+                        Read::To(e) => Keyword::Read(13, e),
+                        Read::Miss => Keyword::Miss,
+                    }
+                }
+            }
+        }
+    }
+}
+
+fn middle_keyword(s: &[u8], at: usize) -> Keyword
+    ensures { λ r. ⌜ r ≡ middleKeyword (now (s .entry)) at ⌝ }
+{
+    let a = word::word(s, at, b"open");
+    match a {
+        Read::To(e) => Keyword::Read(9, e),
+        Read::Miss => {
+            let b = word::word(s, at, b"close");
+            match b {
+                Read::To(e) => Keyword::Read(10, e),
+                Read::Miss => late_keyword(s, at),
+            }
+        }
+    }
+}
+
+// The keywords, compared byte for byte.
+fn keyword_at(s: &[u8], at: usize) -> Keyword
+    ensures { λ r. ⌜ r ≡ keywordAt (now (s .entry)) at ⌝ }
+{
+    let a = word::word(s, at, b"price");
+    match a {
+        Read::To(e) => Keyword::Read(7, e),
+        Read::Miss => {
+            let b = word::word(s, at, b"balance");
+            match b {
+                Read::To(e) => Keyword::Read(8, e),
+                Read::Miss => middle_keyword(s, at),
+            }
+        }
+    }
+}
+
+// What a reader that writes answered, as a form of a kind.
+pub fn formed_as(kind: usize, date: usize, r: Ran) -> Formed
+    ensures { λ f. ⌜ f ≡ formedOf kind date r ⌝ }
+{
+    match r {
+        Ran::To(e, o) => Formed::Read(kind, date, e, o),
+        Ran::Miss => Formed::Miss,
+        Ran::Hard(k, p) => Formed::Hard(k, p),
+    }
+}
+
+// A content, line end (a plain miss), metadata. The content is read first into no table: where its line end misses, nothing is written.
+fn content_end(s: &[u8], at: usize, kind: usize, base: usize, table: &mut [u8], out: Out) -> Ran
+    requires { ⌜ (base ≤ 16777216) × (length (now s) ≤ 16777216) × (at ≤ length (now s)) × (out .rows ≤ at) ⌝ }
+    ensures { λ r. ⌜ Did base (contentEnd kind (now (s .entry)) at) out (now (table .entry)) (now (table .exit)) r ⌝ }
+{
+    let mut none = [0u8; 1];
+    let c = content::content_at(s, at, kind, base, &mut none, out);
+    match c {
+        Ran::To(e, o) => {
+            let l = line::line_end(s, e);
+            match l {
+                Read::To(f) => {
+                    content::content_at(s, at, kind, base, table, out);
+                    metadata::metadata_at(s, f, base, table, o)
+                }
+                Read::Miss => Ran::Miss,
+            }
+        }
+        Ran::Miss => Ran::Miss,
+        Ran::Hard(k, p) => Ran::Hard(k, p),
+    }
+}
+
+fn gap_content(s: &[u8], at: usize, kind: usize, base: usize, table: &mut [u8], out: Out) -> Ran
+    requires { ⌜ (base ≤ 16777216) × (length (now s) ≤ 16777216) × (at ≤ length (now s)) × (out .rows ≤ at) ⌝ }
+    ensures { λ r. ⌜ Did base (gapContent kind (now (s .entry)) at) out (now (table .entry)) (now (table .exit)) r ⌝ }
+{
+    let g = line::gap(s, at);
+    match g {
+        Read::To(j) => content_end(s, j, kind, base, table, out),
+        Read::Miss => Ran::Hard(4, at),
+    }
+}
+
+// A keyword, a gap and a content, both hard, then line end (a plain miss) and metadata.
+fn by_keyword(s: &[u8], at: usize, date: usize, base: usize, table: &mut [u8], out: Out) -> Formed
+    requires { ⌜ (base ≤ 16777216) × (length (now s) ≤ 16777216) × (at ≤ length (now s)) × (out .rows ≤ at) ⌝ }
+    ensures { λ r. ⌜ DidForm base (byKeyword date (now (s .entry)) at) out (now (table .entry)) (now (table .exit)) r ⌝ }
+{
+    let w = keyword_at(s, at);
+    match w {
+        Keyword::Read(kind, e) => {
+            let r = gap_content(s, e, kind, base, table, out);
+            formed_as(kind, date, r)
+        }
+        Keyword::Miss => Formed::Miss,
+    }
+}
+
+// After the date and its gap: a transaction, or one of the keywords.
+fn dateless_at(s: &[u8], at: usize, date: usize, base: usize, table: &mut [u8], out: Out) -> Formed
+    requires { ⌜ (base ≤ 16777216) × (length (now s) ≤ 16777216) × (at ≤ length (now s)) × (out .rows ≤ at) ⌝ }
+    ensures { λ r. ⌜ DidForm base (dateless date (now (s .entry)) at) out (now (table .entry)) (now (table .exit)) r ⌝ }
+{
+    let t = transaction::transaction_at(s, at, base, table, out);
+    match t {
+        Ran::To(e, o) => Formed::Read(6, date, e, o),
+        Ran::Miss => by_keyword(s, at, date, base, table, out),
+        Ran::Hard(k, p) => Formed::Hard(k, p),
+    }
+}
+
+fn wide(n: u32) -> usize
+    ensures { λ r. ⌜ r ≡ n ⌝ }
+{
+    n as usize
+}
+
+// Directive: date, gap (hard), and that.
+pub fn directive_at(s: &[u8], base: usize, table: &mut [u8], out: Out) -> Formed
+    requires { ⌜ (base ≤ 16777216) × (length (now s) ≤ 16777216) × (out .rows ≤ 0) ⌝ }
+    ensures { λ r. ⌜ DidForm base (directive (now (s .entry))) out (now (table .entry)) (now (table .exit)) r ⌝ }
+{
+    let d = date::date(s, 0);
+    match d {
+        Dated::On(e, y) => {
+            let g = line::gap(s, e);
+            match g {
+                Read::To(j) => dateless_at(s, j, wide(y), base, table, out),
+                Read::Miss => Formed::Hard(4, e),
+            }
+        }
+        Dated::Miss => Formed::Miss,
+    }
+}
