@@ -233,7 +233,14 @@ fn form_at(s: &[u8], base: usize, table: &mut [u8], out: Out) -> Formed
 }
 
 // A form that was read, its details written: its own row goes to the front, unless a value is refused.
-fn settled_at(table: &mut [u8], base: usize, kind: usize, date: usize, end: usize, out: Out) -> Entry
+fn settled_at(
+    table: &mut [u8],
+    base: usize,
+    kind: usize,
+    date: usize,
+    end: usize,
+    out: Out,
+) -> Entry
     requires { ⌜ (base ≤ 16777216) × (end ≤ 16777216) × (out .rows ≤ 16777216) ⌝ }
     ensures { λ r. ⌜ r ≡ settledEntry end out ⌝ }
     ensures { λ _. ⌜ now (table .exit) ≡ settledTable base kind date end out (now (table .entry)) ⌝ }

@@ -185,6 +185,7 @@ module _ (s : List ℕ) (at : ℕ) where
       on : (r : Read) → ((token {A = ℕ} r then λ g _. To g (getD s at 0)) else To at 0) ≡ flagged r
       on (Read.To j) = refl
       on Read.Miss = refl
+
       go : (b : Bool) → (((cond b (To (at + 1) []) Miss) then λ f (_ : List Detail). token {A = ℕ} (gapAt s f) then λ g _. To g (getD s at 0)) else To at 0) ≡ flagged (cond b (gapAt s (at + 1)) Read.Miss)
       go true = on (gapAt s (at + 1))
       go false = refl

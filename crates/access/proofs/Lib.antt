@@ -1,0 +1,4 @@
+pub mod SpanLaws
+pub mod SingleLaws
+pub mod ContentLaws
+pub mod TagLaws

@@ -1,0 +1,111 @@
+-- Document 01's edges of single expressions and of string content, and the examples of the decided points 4 to 10 and 25: one list under
+-- one statement for each, by computation.
+use Prim.Native.Nat.{ℕ}
+use Prim.Native.String.{String}
+use mathlib.Core.Path.{_≡_, refl}
+use mathlib.Core.Bool.{true, false}
+use mathlib.Core.List.{List, [], _∷_, _++_, map}
+use lib.ListN.{length, replicate}
+use Rattle.decimal.specs.Exact.{decimalOf, exact, exactly, negated, sum, difference, product, quotient}
+use Rattle.text.specs.Bytes.{isBlank, isSpace, isDigit, isEscaped, bytes}
+use Rattle.text.specs.Run.{runFrom, runTo}
+use Rattle.text.specs.Answer.{_then_, _else_}
+use Rattle.text.specs.Permitted.{permitted, clean}
+use Rattle.text.specs.Strings.{strFrom, escFrom, stringAt}
+use Rattle.amount.specs.Literal.{inLiteral, count, number, places, plain, literalAs, unsigned, literal}
+use Rattle.amount.specs.Expression.{negatedValue, operated, combined, isPlus, isTimes, goesOn, chain, atom, products, sums, negation, inGroup, closed, group, within, expression}
+use Rattle.access.specs.Single.{valueAnswer, readAnswer, evaluated}
+use Rattle.access.specs.Contents.{endsAt, valid, unescaped, escapedByte, contentAnswer, contentLeft}
+use Rattle.access.specs.declared.single.Evaluated.{Evaluated}
+use Rattle.access.specs.declared.content.Content.{Content}
+
+-- ---- single expressions: a text and its answer
+
+abbrev Single : Type 0
+Single = List ℕ × Evaluated
+
+-- millionths, and the same below zero
+abbrev is : String → ℕ → ℕ → Single
+is s e n = (bytes s, Evaluated.Read e (record { minus = false; size = n }))
+
+abbrev less : String → ℕ → ℕ → Single
+less s e n = (bytes s, Evaluated.Read e (record { minus = true; size = n }))
+
+abbrev refused : String → ℕ → ℕ → Single
+refused s n p = (bytes s, Evaluated.Refusal n p)
+
+unfoldable pub singles : List Single
+singles =
+    refused "" 11 0
+    ∷ is "5" 1 5000000
+    ∷ is " 5" 2 5000000
+    ∷ refused "\t5" 11 0
+    ∷ refused " -5" 11 0
+    ∷ refused " (5)" 11 0
+    ∷ refused "1.2.3+1" 11 0
+    ∷ is "1, 2" 2 1000000
+    ∷ less "-(2)*3" 4 2000000
+    ∷ less "-(2) + 1" 4 2000000
+    ∷ is "2*-(3)" 1 2000000
+    ∷ is "2--3" 4 5000000
+    ∷ less "- 5" 3 5000000
+    ∷ is "1,2,.5" 6 12500000
+    ∷ refused "1/3" 7 0
+    ∷ refused "1/0" 8 0
+    ∷ refused "0.0000001" 7 0
+    ∷ refused "999999999.999999*1.000001" 6 0
+    ∷ refused "2+(1/0)" 8 0
+    ∷ (49 ∷ 32 ∷ 0 ∷ [], Evaluated.Refusal 2 2)
+    ∷ (0 ∷ [], Evaluated.Refusal 2 0)
+    ∷ refused "5\r" 2 1
+    ∷ is "5\r\n" 1 5000000
+    ∷ (replicate 32 40 ++ 50 ∷ replicate 32 41, Evaluated.Read 65 (record { minus = false; size = 2000000 }))
+    ∷ (replicate 33 40 ++ 50 ∷ replicate 33 41, Evaluated.Refusal 3 32)
+    ∷ (replicate 33 40, Evaluated.Refusal 3 32)
+    ∷ (replicate 33 40 ++ 0 ∷ [], Evaluated.Refusal 2 33)
+    ∷ []
+
+-- every single expression gives the answer that it says
+pub singles-answer : map (λ x. evaluated (x .0)) singles ≡ map (λ x. x .1) singles
+unfolding singles bytes permitted clean valueAnswer readAnswer evaluated isBlank isSpace isDigit runFrom runTo _then_ _else_ inLiteral count number places plain literalAs unsigned literal negatedValue operated combined isPlus isTimes goesOn chain atom products sums negation inGroup closed group within expression decimalOf exact exactly negated sum difference product quotient
+singles-answer = refl
+
+-- ---- string content: its answer with a buffer of four points, and the buffer afterwards
+
+abbrev buffer : List ℕ
+buffer = bytes "...."
+
+abbrev Filled : Type 0
+Filled = List ℕ × (Content × List ℕ)
+
+abbrev gives : String → ℕ → String → Filled
+gives c n t = (bytes c, (Content.Bytes n, bytes t))
+
+abbrev bad : String → Filled
+bad c = (bytes c, (Content.Refusal 10 0, buffer))
+
+unfoldable pub contents : List Filled
+contents =
+    gives "" 0 "...."
+    ∷ gives "a" 1 "a..."
+    ∷ gives "a\nb" 3 "a\nb."
+    ∷ gives "a\\\"b" 3 "a\"b."
+    ∷ gives "a\\\\" 2 "a\\.."
+    ∷ gives "abcd" 4 "abcd"
+    ∷ gives "abc\\\"" 4 "abc\""
+    ∷ (0 ∷ [], (Content.Bytes 1, 0 ∷ bytes "..."))
+    ∷ (bytes "abcde", (Content.Refusal 9 5, buffer))
+    ∷ (bytes "a\\\"bcd", (Content.Refusal 9 5, buffer))
+    ∷ bad "\""
+    ∷ bad "a\"b"
+    ∷ bad "\\\""
+    ∷ bad "a\\"
+    ∷ bad "a\\n"
+    ∷ bad "a\\\\\\\\"
+    ∷ bad "abcde\""
+    ∷ []
+
+-- all content gives the answer and the bytes that it says
+pub contents-filled : map (λ x. (contentAnswer (x .0) (length buffer), contentLeft (x .0) buffer)) contents ≡ map (λ x. x .1) contents
+unfolding contents bytes isEscaped strFrom escFrom stringAt endsAt valid unescaped escapedByte contentAnswer contentLeft
+contents-filled = refl

@@ -1,0 +1,58 @@
+// One expression, with its value and where it stops.
+use amount::expression;
+use amount::expression::Answer;
+use decimal::Decimal;
+use decimal::Value;
+use text::permitted;
+ghost use mathlib.Core.Path.{_≡_};
+ghost use Rattle.access.specs.Single.{valueAnswer, readAnswer, evaluated};
+ghost use Rattle.amount.specs.Expression.{expression};
+
+// Where it stops, with its value; or a refusal's number and place.
+pub enum Evaluated {
+    Read(usize, Decimal),
+    Refusal(usize, usize),
+}
+
+// A text's bytes at the most (refusal 1).
+const SIZE: usize = 16_777_216;
+
+fn number(n: u8) -> usize
+    ensures { λ r. ⌜ r ≡ n ⌝ }
+{
+    n as usize
+}
+
+fn valued(e: usize, v: Value) -> Evaluated
+    ensures { λ r. ⌜ r ≡ valueAnswer e v ⌝ }
+{
+    match v {
+        Value::Known(d) => Evaluated::Read(e, d),
+        Value::Refused(n) => Evaluated::Refusal(number(n), 0),
+    }
+}
+
+fn read_first(text: &[u8]) -> Evaluated
+    ensures { λ r. ⌜ r ≡ readAnswer (expression (now (text .entry)) 0) ⌝ }
+{
+    let a = expression::expression_at(text, 0);
+    match a {
+        Answer::Read(e, v) => valued(e, v),
+        Answer::Miss => Evaluated::Refusal(11, 0),
+        Answer::Deep(p) => Evaluated::Refusal(3, p),
+    }
+}
+
+// The expression at the start of a text.
+pub fn evaluate(text: &[u8]) -> Evaluated
+    ensures { λ r. ⌜ r ≡ evaluated (now (text .entry)) ⌝ }
+{
+    if SIZE < text.len() {
+        return Evaluated::Refusal(1, 0);
+    }
+    let c = permitted::clean_prefix(text);
+    if c < text.len() {
+        return Evaluated::Refusal(2, c);
+    }
+    read_first(text)
+}

@@ -1,0 +1,9 @@
+pub mod PlainLaws
+pub mod MoveLaws
+pub mod LaidRows
+pub mod ScanLaws
+pub mod ReadLaws
+pub mod Places
+pub mod ExpressionPlaces
+pub mod PostingPlaces
+pub mod EntryPlaces

@@ -1,0 +1,4 @@
+pub mod Plain
+pub mod Answers
+pub mod steps
+pub mod Examples

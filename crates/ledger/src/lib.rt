@@ -1,0 +1,2 @@
+// Plain reading.
+pub mod read;
