@@ -30,15 +30,16 @@ use Rattle.row.proofs.OutLaws.{rows-outs}
 use Rattle.row.proofs.SureLaws.{firm-sure, sure-many}
 use Rattle.row.proofs.DidLaws.{was-read, was-miss, was-hard, did-more}
 use Rattle.row.proofs.TokenLaws.{must-token-read, must-token-miss}
-use Rattle.entry.specs.Directive.{hardAccount, balanceOf, openOf, padOf, eventOf}
-use Rattle.entry.specs.Transaction.{transaction}
+use Rattle.content.specs.Contents.{hardAccount, balanceOf, openOf, padOf, eventOf}
+use Rattle.transaction.specs.Transaction.{transaction}
 use Rattle.entry.specs.Forms.{Form, asEntry, dateless, directive}
-use Rattle.entry.specs.steps.Contents.{contentOf, contentEnd}
+use Rattle.content.specs.steps.Parts.{contentOf}
+use Rattle.entry.specs.steps.Formed.{contentEnd}
 use Rattle.entry.specs.steps.Formed.{keywordAt, gapContent, byKeyword, formedOf, DidForm}
 use Rattle.entry.specs.declared.directive.Formed.{Formed}
 use Rattle.entry.specs.declared.directive.Keyword.{Keyword}
-use Rattle.entry.proofs.EntryEnds.{hard-account-reach, balance-of-reach, open-of-reach, pad-of-reach, event-of-reach}
-use Rattle.entry.proofs.EntryFew.{hard-account-fits, balance-of-fits, open-of-fits, pad-of-fits, event-of-fits}
+use Rattle.content.proofs.ContentEnds.{hard-account-reach, balance-of-reach, open-of-reach, pad-of-reach, event-of-reach}
+use Rattle.content.proofs.ContentFew.{hard-account-fits, balance-of-fits, open-of-fits, pad-of-fits, event-of-fits}
 use Rattle.entry.proofs.TokenJoins.{token-on, token-off}
 use Rattle.entry.proofs.KeywordLaws.{keyword-on, keyword-off, keyword-within, keyword-room}
 

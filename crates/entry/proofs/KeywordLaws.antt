@@ -19,7 +19,8 @@ use Rattle.amount.specs.declared.detail.Detail.{Detail}
 use Rattle.amount.specs.Details.{Rows}
 use Rattle.entry.specs.Directive.{keyword, option, include, tagged}
 use Rattle.entry.specs.Forms.{Form, asEntry}
-use Rattle.entry.specs.steps.Contents.{contentOf, contentEnd}
+use Rattle.content.specs.steps.Parts.{contentOf}
+use Rattle.entry.specs.steps.Formed.{contentEnd}
 use Rattle.entry.specs.steps.Formed.{orKeyword, lateKeyword, middleKeyword, keywordAt, gapContent, byKeyword}
 use Rattle.entry.specs.steps.Undated.{optionOf, includeEnd, includeOf, tagOf, poptagForm, pushtagForm, includeForm, optionForm}
 use Rattle.entry.specs.declared.directive.Keyword.{Keyword}

@@ -1,17 +1,8 @@
 pub mod EntryEnds
 pub mod EntryForms
-pub mod TransactionFew
 pub mod EntryFew
 pub mod EntryLines
 pub mod EntryKinds
-pub mod HeadLaws
-pub mod MarkLaws
-pub mod ChainLaws
-pub mod RowLaws
-pub mod ContentLaws
-pub mod BalanceLaws
-pub mod OpenLaws
-pub mod KindLaws
 pub mod TokenJoins
 pub mod KeywordLaws
 pub mod FormLaws

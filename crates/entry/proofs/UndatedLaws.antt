@@ -38,7 +38,8 @@ use Rattle.row.proofs.OutLaws.{rows-noted, wrote-one, wrote-then}
 use Rattle.row.proofs.SureLaws.{firm-to, firm-hard}
 use Rattle.row.proofs.DidLaws.{did-read, did-emit, and-read, and-miss, and-hard}
 use Rattle.row.proofs.TokenLaws.{token-read, token-miss, must-token-read, must-token-miss, must-token-end, must-token-end-miss}
-use Rattle.entry.specs.Directive.{hardString, option, include, tagged}
+use Rattle.content.specs.Contents.{hardString}
+use Rattle.entry.specs.Directive.{option, include, tagged}
 use Rattle.entry.specs.Forms.{Form, asEntry, directive, blank, formOf}
 use Rattle.entry.specs.steps.Formed.{formedOf, DidForm}
 use Rattle.entry.specs.steps.Undated.{gapQuoted, optionEnd, optionOf, includeEnd, includeOf, tagOf, blankFormed, poptagForm, pushtagForm, includeForm, optionForm, undated}

@@ -11,8 +11,9 @@ use Rattle.text.specs.Leaves.{date}
 use Rattle.amount.specs.declared.detail.Detail.{Detail}
 use Rattle.amount.specs.Details.{Rows}
 use Rattle.amount.specs.Amounts.{hardGap, hardCurrency, priceOf}
-use Rattle.entry.specs.Transaction.{transaction}
-use Rattle.entry.specs.Directive.{hardAccount, balanceOf, openOf, padOf, eventOf, keyword, option, include, tagged}
+use Rattle.transaction.specs.Transaction.{transaction}
+use Rattle.content.specs.Contents.{hardAccount, balanceOf, openOf, padOf, eventOf}
+use Rattle.entry.specs.Directive.{keyword, option, include, tagged}
 
 -- what an entry reads besides its length: its kind, its date or 0, its details
 pub record Form : Type 0 where

@@ -1,4 +1,3 @@
-pub mod Transaction
 pub mod Directive
 pub mod Forms
 pub mod Entry

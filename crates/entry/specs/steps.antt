@@ -1,6 +1,4 @@
 -- What the code works out on the way. No definition that a reader must trust stands here.
-pub mod Heads
-pub mod Contents
 pub mod Formed
 pub mod Undated
 pub mod Settled

@@ -1,6 +1,4 @@
 // Directives (rule 4).
-use crate::content;
-use crate::transaction;
 use posting::metadata;
 use row::writer::Out;
 use row::writer::Ran;
@@ -14,7 +12,7 @@ ghost use Prim.Native.Nat.{_≤_};
 ghost use lib.ListN.{length};
 ghost use Rattle.row.specs.steps.Writing.{Did};
 ghost use Rattle.entry.specs.Forms.{dateless, directive};
-ghost use Rattle.entry.specs.steps.Contents.{contentEnd};
+ghost use Rattle.entry.specs.steps.Formed.{contentEnd};
 ghost use Rattle.entry.specs.steps.Formed.{keywordAt, middleKeyword, lateKeyword, formedOf, DidForm, gapContent, byKeyword};
 
 // A keyword: its entry's kind, and where it ends.
@@ -102,13 +100,13 @@ fn content_end(s: &[u8], at: usize, kind: usize, base: usize, table: &mut [u8], 
     ensures { λ r. ⌜ Did base (contentEnd kind (now (s .entry)) at) out (now (table .entry)) (now (table .exit)) r ⌝ }
 {
     let mut none = [0u8; 1];
-    let c = content::content_at(s, at, kind, base, &mut none, out);
+    let c = content::content::content_at(s, at, kind, base, &mut none, out);
     match c {
         Ran::To(e, o) => {
             let l = line::line_end(s, e);
             match l {
                 Read::To(f) => {
-                    content::content_at(s, at, kind, base, table, out);
+                    content::content::content_at(s, at, kind, base, table, out);
                     metadata::metadata_at(s, f, base, table, o)
                 }
                 Read::Miss => Ran::Miss,
@@ -150,7 +148,7 @@ fn dateless_at(s: &[u8], at: usize, date: usize, base: usize, table: &mut [u8], 
     requires { ⌜ (base ≤ 16777216) × (length (now s) ≤ 16777216) × (at ≤ length (now s)) × (out .rows ≤ at) ⌝ }
     ensures { λ r. ⌜ DidForm base (dateless date (now (s .entry)) at) out (now (table .entry)) (now (table .exit)) r ⌝ }
 {
-    let t = transaction::transaction_at(s, at, base, table, out);
+    let t = transaction::transaction::transaction_at(s, at, base, table, out);
     match t {
         Ran::To(e, o) => Formed::Read(6, date, e, o),
         Ran::Miss => by_keyword(s, at, date, base, table, out),

@@ -1,5 +1,4 @@
 // One entry at the front of a text (rule 1), its rows written to the front of a table.
-use crate::content;
 use crate::directive;
 use crate::directive::Formed;
 use amount::detail;
@@ -92,7 +91,7 @@ fn include_end(s: &[u8], at: usize, base: usize, table: &mut [u8], out: Out) -> 
     requires { ⌜ (base ≤ 16777216) × (out .rows ≤ 33554431) ⌝ }
     ensures { λ r. ⌜ Did base (includeEnd (now (s .entry)) at) out (now (table .entry)) (now (table .exit)) r ⌝ }
 {
-    let x = content::required_string(s, at, base, table, out);
+    let x = content::content::required_string(s, at, base, table, out);
     match x {
         Ran::To(e, o) => {
             let l = line::line_end(s, e);

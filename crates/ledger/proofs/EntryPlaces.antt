@@ -21,8 +21,9 @@ use Rattle.row.specs.declared.table.Row.{Row}
 use Rattle.row.specs.Details.{valuePlace}
 use Rattle.posting.specs.Metadata.{quoted}
 use Rattle.ledger.proofs.PostingPlaces.{Stands, InPlace, Sure, valued-place, valued-sure, row-bounds, hard-gap-sure, hard-currency-sure, price-of-sure, quoted-sure, metadata-sure, comma-sure, flag-sure, body-sure}
-use Rattle.entry.specs.Transaction.{opening, texts, mark, marks, transaction}
-use Rattle.entry.specs.Directive.{hardAccount, hardString, tolerance, balanceOf, oneCurrency, further, currencies, booking, openOf, padOf, eventOf, keyword, option, include, tagged}
+use Rattle.transaction.specs.Transaction.{opening, texts, mark, marks, transaction}
+use Rattle.content.specs.Contents.{hardAccount, hardString, tolerance, balanceOf, oneCurrency, further, currencies, booking, openOf, padOf, eventOf}
+use Rattle.entry.specs.Directive.{keyword, option, include, tagged}
 use Rattle.entry.specs.Forms.{Form, asEntry, dateless, directive, blank, formOf}
 use Rattle.entry.specs.Entry.{got, refuse, judged, settled, entryOf}
 

@@ -13,9 +13,12 @@ use Rattle.row.specs.declared.writer.Ran.{Ran}
 use Rattle.row.specs.Row.{pourAt}
 use Rattle.row.specs.Details.{laid}
 use Rattle.row.specs.steps.Writing.{outs}
-use Rattle.entry.specs.Directive.{hardAccount, balanceOf, openOf, padOf, eventOf, keyword}
+use Rattle.content.specs.Contents.{hardAccount, balanceOf, openOf, padOf, eventOf}
+use Rattle.entry.specs.Directive.{keyword}
 use Rattle.entry.specs.Forms.{Form, asEntry}
-use Rattle.entry.specs.steps.Contents.{contentEnd}
+use Rattle.content.specs.steps.Parts.{contentOf}
+use Rattle.posting.specs.Metadata.{metadata}
+use Rattle.text.specs.Leaves.{lineEnd}
 use Rattle.entry.specs.declared.directive.Formed.{Formed}
 use Rattle.entry.specs.declared.directive.Keyword.{Keyword}
 
@@ -33,6 +36,9 @@ middleKeyword s at = orKeyword 9 (wordAt (bytes "open") s at) (orKeyword 10 (wor
 
 unfoldable pub keywordAt : List ℕ → ℕ → Keyword
 keywordAt s at = orKeyword 7 (wordAt (bytes "price") s at) (orKeyword 8 (wordAt (bytes "balance") s at) (middleKeyword s at))
+
+unfoldable pub contentEnd : ℕ → List ℕ → ℕ → Rows
+contentEnd k s at = contentOf k s at and λ m. lineEnd s m and λ l. metadata s l
 
 unfoldable pub gapContent : ℕ → List ℕ → ℕ → Rows
 gapContent k s at = hardGap s at and λ g. contentEnd k s g

@@ -13,7 +13,8 @@ use Rattle.amount.specs.Details.{Rows, span}
 use Rattle.amount.specs.Amounts.{hardGap}
 use Rattle.posting.specs.Metadata.{quoted}
 use Rattle.row.specs.declared.writer.Out.{Out}
-use Rattle.entry.specs.Directive.{hardString, option, include, tagged}
+use Rattle.content.specs.Contents.{hardString}
+use Rattle.entry.specs.Directive.{option, include, tagged}
 use Rattle.entry.specs.Forms.{Form, asEntry, blank}
 use Rattle.entry.specs.declared.directive.Formed.{Formed}
 

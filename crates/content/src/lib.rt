@@ -1,0 +1,3 @@
+// What directives hold after their keyword (rule 10).
+pub mod content;
+pub mod open;

@@ -1,0 +1,2 @@
+pub mod Transaction
+pub mod steps

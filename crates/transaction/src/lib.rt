@@ -1,0 +1,2 @@
+// Transactions (rule 11).
+pub mod transaction;
