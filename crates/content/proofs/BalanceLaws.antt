@@ -30,6 +30,7 @@ use Rattle.row.specs.declared.writer.Out.{Out}
 use Rattle.row.specs.declared.writer.Ran.{Ran}
 use Rattle.row.proofs.SureLaws.{Sure, sure-to, sure-hard, sure-must, sure-and}
 use Rattle.row.proofs.DidLaws.{did-read}
+use Rattle.row.proofs.OutLaws.{poured-none}
 use Rattle.row.proofs.TokenLaws.{then-read, must-token-read, must-token-miss}
 use Rattle.posting.proofs.OneRows.{OneRow, row, one-miss, one-hard, token-to, token-miss, byteAt, byte-token, byte-row, then-row}
 use Rattle.content.specs.Contents.{hardAccount, tolerance, balanceOf}
@@ -127,7 +128,7 @@ module _ (base : ℕ) (s : List ℕ) (at : ℕ) (o : Out) (t : List ℕ) (x : An
 
     pub amount-miss : y ≡ One.Miss → Did base (balanceAmount s at) o t t Ran.Miss
     unfolding _then_
-    amount-miss k = rw (amount-is, one-miss (toleranceOf s e) y w k) (refl, refl)
+    amount-miss k = rw (amount-is, one-miss (toleranceOf s e) y w k) (refl, poured-none (o .rows) t)
 
     pub amount-hard : (k i : ℕ) (u : List ℕ) → y ≡ One.Hard k i → Did base (balanceAmount s at) o t u (Ran.Hard k i)
     unfolding _then_

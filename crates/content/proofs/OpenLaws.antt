@@ -26,7 +26,7 @@ use Rattle.row.specs.declared.writer.Out.{Out}
 use Rattle.row.specs.declared.writer.Ran.{Ran}
 use Rattle.row.proofs.PourLaws.{length-pourAt}
 use Rattle.row.proofs.OutLaws.{rows-noted}
-use Rattle.row.proofs.SureLaws.{Sure, sure-to, sure-maybe, sure-many, sure-and, firm-sure}
+use Rattle.row.proofs.SureLaws.{Sure, sure-to, sure-maybe, sure-many, sure-and}
 use Rattle.row.proofs.DidLaws.{did-miss, did-hard, did-none, did-emit, and-read, maybe-sure}
 use Rattle.posting.specs.Metadata.{quoted}
 use Rattle.posting.specs.steps.Lots.{commaAt}
@@ -190,7 +190,7 @@ module _ (s : List ℕ) (at : ℕ) where
       unfolding furthers
       currencies-read u r D =
           let c : Did base (gapCurrency s at) o t v (Ran.To e m) = rw (one-read x e d (gap-currency-row s at) p q) (did-emit base o t e d d m v k l refl) in
-          let a : Did base (gapCurrency s at and furthers s) o t u r = and-read base o t v (Ran.To e m) (gapCurrency s at) (furthers s) c e m u r refl (firm-sure (sure-many (further s) (suc (length s)) e)) D in
+          let a : Did base (gapCurrency s at and furthers s) o t u r = and-read base o t v (Ran.To e m) (gapCurrency s at) (furthers s) c e m u r refl D in
           let z : Sure (gapCurrency s at and furthers s) = rw (one-read x e d (gap-currency-row s at) p q) (sure-and (furthers s) sure-to (λ j. sure-many (further s) (suc (length s)) j)) in
           rw currencies-are (maybe-sure base o t u r at z a)
 

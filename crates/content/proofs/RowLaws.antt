@@ -19,7 +19,7 @@ use Rattle.row.specs.steps.Writing.{someRow, Did}
 use Rattle.row.specs.declared.writer.Out.{Out}
 use Rattle.row.specs.declared.writer.Ran.{Ran}
 use Rattle.row.proofs.OutLaws.{rows-outs}
-use Rattle.row.proofs.SureLaws.{Sure, sure-to, sure-hard, firm-sure}
+use Rattle.row.proofs.SureLaws.{Sure, sure-to, sure-hard}
 use Rattle.row.proofs.DidLaws.{was-read, and-read, and-miss, and-hard}
 use Rattle.posting.proofs.OneRows.{OneRow, row, none, hard}
 
@@ -95,7 +95,7 @@ some-read i r j d (hard k n) p q = cc
 
 module _ (base : ℕ) (o : Out) (t v : List ℕ) (r : Ran) (a c : Rows) (g : ℕ → Rows) (E : c ≡ (a and g)) (S : (e : ℕ) → Sure (g e)) (D : Did base a o t v r) where
   pub join-read : (e : ℕ) (m : Out) (u : List ℕ) (q : Ran) → r ≡ Ran.To e m → Did base (g e) m v u q → Did base c o t u q
-  join-read e m u q h k = rw E (and-read base o t v r a g D e m u q h (firm-sure (S e)) k)
+  join-read e m u q h k = rw E (and-read base o t v r a g D e m u q h k)
 
   pub join-miss : r ≡ Ran.Miss → Did base c o t v Ran.Miss
   join-miss h = rw E (and-miss base o t v r a g D h)

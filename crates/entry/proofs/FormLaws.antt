@@ -3,10 +3,10 @@ use Prim.Native.Nat.{ℕ, suc, _+_, _≤_}
 use native.Mathlib.Omega.{arith}
 use mathlib.Core.Path.{_≡_, refl, sym, _∙_, ap, subst}
 use mathlib.Core.Bool.{Bool, true, false, cond}
-use mathlib.Core.List.{List, map}
+use mathlib.Core.List.{List, [], map}
 use lib.Dec.{eqb}
 use lib.ListN.{length}
-use Rattle.text.specs.Answer.{Ans, To, Miss, Hard, _then_, more, _and_, _else_, must}
+use Rattle.text.specs.Answer.{Ans, To, Miss, Hard, _then_, _and_, _else_, must}
 use Rattle.text.specs.Dates.{dateAt}
 use Rattle.text.specs.Leaves.{token, dated, date, gap, lineEnd}
 use Rattle.text.specs.Lines.{gapAt, lineEndAt}
@@ -20,16 +20,14 @@ use Rattle.amount.specs.Amounts.{hardGap, hardCurrency, priceOf}
 use Rattle.amount.proofs.AmountFew.{hard-currency-fits, price-of-fits}
 use Rattle.amount.proofs.AmountLaws.{hard-currency-reach, price-of-reach}
 use Rattle.amount.proofs.RowCounts.{Fits, fits-at}
-use Rattle.posting.specs.Metadata.{metaStep, metadata}
+use Rattle.posting.specs.Metadata.{metadata}
 use Rattle.row.specs.declared.writer.Out.{Out}
 use Rattle.row.specs.declared.writer.Ran.{Ran}
-use Rattle.row.specs.Row.{pourAt}
 use Rattle.row.specs.Details.{laid}
-use Rattle.row.specs.steps.Writing.{outs, Did}
-use Rattle.row.proofs.OutLaws.{rows-outs}
-use Rattle.row.proofs.SureLaws.{firm-sure, sure-many}
-use Rattle.row.proofs.DidLaws.{was-read, was-miss, was-hard, did-more}
-use Rattle.row.proofs.TokenLaws.{must-token-read, must-token-miss}
+use Rattle.row.specs.steps.Writing.{outs, Poured, Did}
+use Rattle.row.proofs.OutLaws.{rows-outs, poured-none, poured-past}
+use Rattle.row.proofs.DidLaws.{was-read, and-read, and-miss, and-hard}
+use Rattle.row.proofs.TokenLaws.{token-read, token-miss, must-token-read, must-token-miss}
 use Rattle.content.specs.Contents.{hardAccount, balanceOf, openOf, padOf, eventOf}
 use Rattle.transaction.specs.Transaction.{transaction}
 use Rattle.entry.specs.Forms.{Form, asEntry, dateless, directive}
@@ -40,7 +38,6 @@ use Rattle.entry.specs.declared.directive.Formed.{Formed}
 use Rattle.entry.specs.declared.directive.Keyword.{Keyword}
 use Rattle.content.proofs.ContentEnds.{hard-account-reach, balance-of-reach, open-of-reach, pad-of-reach, event-of-reach}
 use Rattle.content.proofs.ContentFew.{hard-account-fits, balance-of-fits, open-of-fits, pad-of-fits, event-of-fits}
-use Rattle.entry.proofs.TokenJoins.{token-on, token-off}
 use Rattle.entry.proofs.KeywordLaws.{keyword-on, keyword-off, keyword-within, keyword-room}
 
 -- ---- an answer as a form of a kind
@@ -74,14 +71,14 @@ module _ (base : ℕ) (o : Out) (t u : List ℕ) where
 -- ---- what the code's answer f to a form tells of it
 
 pub form-was : (base : ℕ) (a : Ans Form) (o : Out) (t v : List ℕ) (f : Formed) (k d n : ℕ) (m : Out) → DidForm base a o t v f → f ≡ Formed.Read k d n m
-    → (x : Form) × (a ≡ To n x) × (x .kind ≡ k) × (x .date ≡ d) × (m ≡ outs o (x .details)) × (v ≡ pourAt (o .rows) (map (laid base) (x .details)) t)
+    → (x : Form) × (a ≡ To n x) × (x .kind ≡ k) × (x .date ≡ d) × (m ≡ outs o (x .details)) × Poured (o .rows) (map (laid base) (x .details)) t v
 form-was base (To e x) o t v f k d n m w h =
     let p : e ≡ n = cc in
     (x, ap (λ i. To i x) p, cc, cc, cc, w .1)
 form-was base Miss o t v f k d n m w h = absurd (let z : _≡_ {A = ℕ} 0 1 = cc in omega arith)
 form-was base (Hard i p) o t v f k d n m w h = absurd (let z : _≡_ {A = ℕ} 0 1 = cc in omega arith)
 
-pub form-missed : (base : ℕ) (a : Ans Form) (o : Out) (t v : List ℕ) (f : Formed) → DidForm base a o t v f → f ≡ Formed.Miss → (a ≡ Miss) × (v ≡ t)
+pub form-missed : (base : ℕ) (a : Ans Form) (o : Out) (t v : List ℕ) (f : Formed) → DidForm base a o t v f → f ≡ Formed.Miss → (a ≡ Miss) × Poured (o .rows) [] t v
 form-missed base (To e x) o t v f w h = absurd (let z : _≡_ {A = ℕ} 0 1 = cc in omega arith)
 form-missed base Miss o t v f w h = (refl, w .1)
 form-missed base (Hard i p) o t v f w h = absurd (let z : _≡_ {A = ℕ} 0 1 = cc in omega arith)
@@ -93,6 +90,11 @@ form-refused base (Hard i q) o t v f n p w h = cc
 
 -- ---- a form, else the next on the same table
 
+form-past : (base : ℕ) (a : Ans Form) (o : Out) (t v u : List ℕ) (f : Formed) → Poured (o .rows) [] t v → DidForm base a o v u f → DidForm base a o t u f
+form-past base (To e x) o t v u f w d = (d .0, poured-past (o .rows) (map (laid base) (x .details)) t v u w (d .1))
+form-past base Miss o t v u f w d = (d .0, poured-past (o .rows) [] t v u w (d .1))
+form-past base (Hard k p) o t v u f w d = d
+
 module _ (base : ℕ) (o : Out) (t v : List ℕ) (a b : Ans Form) (f : Formed) (w : DidForm base a o t v f) where
   pub else-read : (k d e : ℕ) (m : Out) → f ≡ Formed.Read k d e m → DidForm base (a else b) o t v (Formed.Read k d e m)
   unfolding _else_
@@ -100,7 +102,7 @@ module _ (base : ℕ) (o : Out) (t v : List ℕ) (a b : Ans Form) (f : Formed) (
 
   pub else-next : (u : List ℕ) (q : Formed) → f ≡ Formed.Miss → DidForm base b o v u q → DidForm base (a else b) o t u q
   unfolding _else_
-  else-next u q h k = let z = form-missed base a o t v f w h in rw (z .0, ← z .1) k
+  else-next u q h k = let z = form-missed base a o t v f w h in rw (z .0) (form-past base b o t v u q (z .1) k)
 
   pub else-hard : (u : List ℕ) (k p : ℕ) → f ≡ Formed.Hard k p → DidForm base (a else b) o t u (Formed.Hard k p)
   unfolding _else_
@@ -132,30 +134,28 @@ content-fits k s at =
     by-kind (Fits at) k s at (price-of-fits s at) (balance-of-fits s at) (open-of-fits s at) (hard-account-fits s at) (pad-of-fits s at) (hard-currency-fits s at)
     (event-of-fits s at)
 
--- the content was read into a table n, and then into t: c is what the code answered
-module _ (base : ℕ) (k : ℕ) (s : List ℕ) (at : ℕ) (o : Out) (n n' : List ℕ) (c : Ran) (w : Did base (contentOf k s at) o n n' c) where
+-- the content, its line end and metadata: c is what the code answered to the content, l to the line end
+module _ (base : ℕ) (k : ℕ) (s : List ℕ) (at : ℕ) (o : Out) (t v : List ℕ) (c : Ran) (w : Did base (contentOf k s at) o t v c) where
+  -- after the content
+  abbrev endOf : ℕ → Rows
+  endOf m = lineEnd s m and λ l. metadata s l
+
   module _ (e : ℕ) (m : Out) (h : c ≡ Ran.To e m) (l : Read) (x : l ≡ lineEndAt s e) where
-    pub content-end : (f : ℕ) (t v u : List ℕ) (c' q : Ran) → l ≡ Read.To f → Did base (contentOf k s at) o t v c' → Did base (metadata s f) m v u q
-        → Did base (contentEnd k s at) o t u q
-    unfolding contentEnd lineEnd metadata _and_
-    content-end f t v u c' q g y z =
-        let a = was-read base o n n' c (contentOf k s at) e m w h in
-        rw (a .1, token-on (lineEndAt s e) (metadata s) f (sym x ∙ g))
-        (did-more base o t (a .0) (metadata s f) m v u q (a .2 .0, subst (λ b. Did base b o t v c') (a .1) y .1) (firm-sure (sure-many (metaStep s) (suc (length s)) f)) z)
+    pub content-end : (f : ℕ) (u : List ℕ) (q : Ran) → l ≡ Read.To f → Did base (metadata s f) m v u q → Did base (contentEnd k s at) o t u q
+    unfolding contentEnd lineEnd
+    content-end f u q g z = and-read base o t v c (contentOf k s at) endOf w e m u q h (token-read base m v l (lineEndAt s e) x (metadata s) f u q g z)
 
-    pub content-open : (t : List ℕ) → l ≡ Read.Miss → Did base (contentEnd k s at) o t t Ran.Miss
-    unfolding contentEnd lineEnd _and_ more
-    content-open t g =
-        let a = was-read base o n n' c (contentOf k s at) e m w h in
-        rw (a .1, token-off (lineEndAt s e) (metadata s) (sym x ∙ g)) (refl, refl)
+    pub content-open : l ≡ Read.Miss → Did base (contentEnd k s at) o t v Ran.Miss
+    unfolding contentEnd lineEnd
+    content-open g = and-read base o t v c (contentOf k s at) endOf w e m v Ran.Miss h (token-miss base m v l (lineEndAt s e) x (metadata s) g)
 
-  pub content-miss : (t : List ℕ) → c ≡ Ran.Miss → Did base (contentEnd k s at) o t t Ran.Miss
-  unfolding contentEnd _and_
-  content-miss t h = rw (was-miss base o n n' c (contentOf k s at) w h .0) (refl, refl)
+  pub content-miss : c ≡ Ran.Miss → Did base (contentEnd k s at) o t v Ran.Miss
+  unfolding contentEnd
+  content-miss h = and-miss base o t v c (contentOf k s at) endOf w h
 
-  pub content-hard : (t u : List ℕ) (i p : ℕ) → c ≡ Ran.Hard i p → Did base (contentEnd k s at) o t u (Ran.Hard i p)
-  unfolding contentEnd _and_
-  content-hard t u i p h = rw (was-hard base o n n' c (contentOf k s at) i p w h) refl
+  pub content-hard : (u : List ℕ) (i p : ℕ) → c ≡ Ran.Hard i p → Did base (contentEnd k s at) o t u (Ran.Hard i p)
+  unfolding contentEnd
+  content-hard u i p h = and-hard base o t v c (contentOf k s at) endOf w i p u h
 
 -- what metadata needs
 module _ (s : List ℕ) (e f : ℕ) (l : Read) (g : l ≡ Read.To f) (x : l ≡ lineEndAt s e) (c : Ran) (m : Out) (h : c ≡ Ran.To e m)
@@ -209,7 +209,7 @@ module _ (base : ℕ) (d : ℕ) (s : List ℕ) (at : ℕ) (o : Out) (t : List �
   by-keyword-read k e u r f h w q = form-as base o t u (byKeyword d s at) k d (gapContent k s e) r f (keyword-on d s at x v k e h) w q
 
   pub by-keyword-miss : x ≡ Keyword.Miss → DidForm base (byKeyword d s at) o t t Formed.Miss
-  by-keyword-miss h = rw (keyword-off d s at x v h) (refl, refl)
+  by-keyword-miss h = rw (keyword-off d s at x v h) (refl, poured-none (o .rows) t)
 
 pub ruleset by-keyword-laws = (keyword-within, keyword-room, by-keyword-read, by-keyword-miss)
 
@@ -258,7 +258,7 @@ module _ (base : ℕ) (s : List ℕ) (o : Out) (t : List ℕ) (x : Dated) (v : x
 
   pub directive-miss : x ≡ Dated.Miss → DidForm base (directive s) o t t Formed.Miss
   unfolding directive date dated _then_
-  directive-miss h = rw (← v, h) (refl, refl)
+  directive-miss h = rw (← v, h) (refl, poured-none (o .rows) t)
 
 -- what the code needs to read on after the date
 module _ (s : List ℕ) (x : Dated) (v : x ≡ dateAt s 0) (e y : ℕ) (h : x ≡ Dated.On e y) (g : Read) (w : g ≡ gapAt s e) (j : ℕ) (i : g ≡ Read.To j) where

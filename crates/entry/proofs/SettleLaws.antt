@@ -3,7 +3,7 @@ use Prim.Native.Nat.{ℕ, _+_, _-_, _≤_, _<_}
 use native.Mathlib.Omega.{arith}
 use mathlib.Core.Path.{_≡_, refl, sym, _∙_, ap, subst}
 use mathlib.Core.Bool.{Bool, true, false, cond}
-use mathlib.Core.List.{List, [], _∷_, map}
+use mathlib.Core.List.{List, [], _∷_, _++_, map}
 use borrow.Author.Tests.{eq-eqb, ne-eqb}
 use borrow.Rule.Slice.PartMut.{putMid}
 use lib.Dec.{eqb}
@@ -19,7 +19,7 @@ use Rattle.amount.proofs.RowCounts.{fits-at}
 use Rattle.row.specs.declared.writer.Out.{Out}
 use Rattle.row.specs.Row.{rowOf, pour, placeOf}
 use Rattle.row.specs.Details.{laid, valuePlace}
-use Rattle.row.specs.steps.Writing.{more, noted, outs}
+use Rattle.row.specs.steps.Writing.{more, noted, outs, Poured}
 use Rattle.row.proofs.OutLaws.{rows-outs}
 use Rattle.row.proofs.PourLaws.{pourAt-zero}
 use Rattle.row.proofs.TableLaws.{head-and-rest}
@@ -130,15 +130,18 @@ answer-held s n x m h = go (eqb (m .bad) 0)
 
 -- the table with the details from row 1 on, and then the entry's own row, unless a value is refused
 poured-held : (base : ℕ) (s t : List ℕ) (i : ℕ) (v : List ℕ) (k d n : ℕ) (m : Out) (u : List ℕ) (x : Form) → formOf s ≡ To n x → x .kind ≡ k → x .date ≡ d
-    → m .rows ≡ length (x .details) → v ≡ pour (map (laid base) (x .details)) (take (length t - i) (drop i t)) → i ≡ placeOf 1 (length t)
+    → m .rows ≡ length (x .details) → Poured 0 (map (laid base) (x .details)) (take (length t - i) (drop i t)) v → i ≡ placeOf 1 (length t)
     → u ≡ settledTable base k d n m (putMid i (length t - i) t v) → EntryPoured (heldVerdict (got n (rowsOf s n x)) m) base s t u
 unfolding settledTable formRows
-poured-held base s t i v k d n m u x ex ek ed em ev ei eu = go (eqb (m .bad) 0) eu
+poured-held base s t i v k d n m u x ex ek ed em (xs, ev) ei eu = go (eqb (m .bad) 0) eu
   where
     go : (b : Bool) → u ≡ cond b (pour (ownRow base k d n (m .rows) ∷ []) (putMid i (length t - i) t v)) (putMid i (length t - i) t v)
         → EntryPoured (cond b (got n (rowsOf s n x)) (refuse (m .bad - 1) (m .place))) base s t u
     go true q =
-        rw (ex, ek, ed, ← em) (head-and-rest (ownRow base k d n (m .rows)) (map (laid base) (x .details)) t ei ev q)
+        let rs = map (laid base) (x .details) ++ xs in
+        let part = take (length t - i) (drop i t) in
+        rw (ex, ek, ed, ← em)
+        (xs, head-and-rest (ownRow base k d n (m .rows)) rs t ei (ev ∙ pourAt-zero rs part) q ∙ sym (pourAt-zero (ownRow base k d n (m .rows) ∷ rs) t))
     go false q = tt
 
 module _ (base : ℕ) (s t : List ℕ) (i : ℕ) (v : List ℕ) (f : Formed) (w : DidForm base (formOf s) noneHeld (take (length t - i) (drop i t)) v f) where
@@ -153,7 +156,7 @@ module _ (base : ℕ) (s t : List ℕ) (i : ℕ) (v : List ℕ) (f : Formed) (w 
       let z = form-was base (formOf s) noneHeld (take (length t - i) (drop i t)) v f k d n m w h in
       rw (entry-verdict s n (z .0) m (z .1) (z .4))
       (poured-held base s t i v k d n m u (z .0) (z .1) (z .2) (z .3) (rows-held (z .0 .details) m (z .4))
-      (z .5 ∙ pourAt-zero (map (laid base) (z .0 .details)) (take (length t - i) (drop i t))) e q)
+      (z .5) e q)
 
   -- a form that missed, or that is refused
   pub entry-missed : f ≡ Formed.Miss → Entry.Refused 5 0 ≡ entryAnswer (entryOf s)

@@ -33,9 +33,7 @@ use Rattle.row.specs.declared.writer.Ran.{Ran}
 use Rattle.row.specs.Row.{pourAt}
 use Rattle.row.specs.Details.{laid}
 use Rattle.row.specs.steps.Writing.{noted, outs, Did}
-use Rattle.row.proofs.PourLaws.{pourAt-none}
-use Rattle.row.proofs.OutLaws.{rows-noted, wrote-one, wrote-then}
-use Rattle.row.proofs.SureLaws.{firm-to, firm-hard}
+use Rattle.row.proofs.OutLaws.{rows-noted, wrote-one, wrote-then, poured-none}
 use Rattle.row.proofs.DidLaws.{did-read, did-emit, and-read, and-miss, and-hard}
 use Rattle.row.proofs.TokenLaws.{token-read, token-miss, must-token-read, must-token-miss, must-token-end, must-token-end-miss}
 use Rattle.content.specs.Contents.{hardString}
@@ -122,11 +120,11 @@ module _ (base : ℕ) (x : Detail) (s : List ℕ) (at : ℕ) (o : Out) (t : List
 
     pub option-open : l ≡ Read.Miss → Did base (optionEnd x s at) o t t Ran.Miss
     unfolding optionEnd lineEnd token more
-    option-open i = rw (quoted-and s at (lineEnd s) b v e y h, ← w, i) (refl, refl)
+    option-open i = rw (quoted-and s at (lineEnd s) b v e y h, ← w, i) (refl, poured-none (o .rows) t)
 
   pub option-end-miss : b ≡ One.Miss → Did base (optionEnd x s at) o t t Ran.Miss
   unfolding optionEnd more
-  option-end-miss h = rw (quoted-off s at (lineEnd s) b v h) (refl, refl)
+  option-end-miss h = rw (quoted-off s at (lineEnd s) b v h) (refl, poured-none (o .rows) t)
 
   pub option-end-hard : (u : List ℕ) (k p : ℕ) → b ≡ One.Hard k p → Did base (optionEnd x s at) o t u (Ran.Hard k p)
   unfolding optionEnd more
@@ -150,7 +148,7 @@ module _ (base : ℕ) (s : List ℕ) (at : ℕ) (o : Out) (t : List ℕ) (b : On
 
   pub option-miss : b ≡ One.Miss → Did base (optionOf s at) o t t Ran.Miss
   unfolding optionOf
-  option-miss h = rw (quoted-off s at rest b v h) (refl, refl)
+  option-miss h = rw (quoted-off s at rest b v h) (refl, poured-none (o .rows) t)
 
   pub option-hard : (u : List ℕ) (k p : ℕ) → b ≡ One.Hard k p → Did base (optionOf s at) o t u (Ran.Hard k p)
   unfolding optionOf
@@ -168,12 +166,12 @@ module _ (base : ℕ) (s : List ℕ) (at : ℕ) (o : Out) (t : List ℕ) where
     pub include-read : (e f : ℕ) (m : Out) (l : Read) → r ≡ Ran.To e m → l ≡ lineEndAt s e → l ≡ Read.To f → Did base (includeEnd s at) o t v (Ran.To f m)
     unfolding includeEnd lineEnd
     include-read e f m l h x i =
-        and-read base o t v r (hardString s at) lineLeft w e m v (Ran.To f m) h firm-to (must-token-end base m v l (lineEndAt s e) x e f i)
+        and-read base o t v r (hardString s at) lineLeft w e m v (Ran.To f m) h (must-token-end base m v l (lineEndAt s e) x e f i)
 
     pub include-open : (e : ℕ) (m : Out) (l : Read) (u : List ℕ) → r ≡ Ran.To e m → l ≡ lineEndAt s e → l ≡ Read.Miss → Did base (includeEnd s at) o t u (Ran.Hard 4 e)
     unfolding includeEnd lineEnd
     include-open e m l u h x i =
-        and-read base o t v r (hardString s at) lineLeft w e m u (Ran.Hard 4 e) h firm-hard (must-token-end-miss base m v l (lineEndAt s e) x e u i)
+        and-read base o t v r (hardString s at) lineLeft w e m u (Ran.Hard 4 e) h (must-token-end-miss base m v l (lineEndAt s e) x e u i)
 
     pub include-miss : r ≡ Ran.Miss → Did base (includeEnd s at) o t v Ran.Miss
     unfolding includeEnd
@@ -287,7 +285,7 @@ module _ (base : ℕ) (s : List ℕ) (o : Out) (t u : List ℕ) (x : Read) where
 
 pub poptag-none : (base : ℕ) (s : List ℕ) (o : Out) (t : List ℕ) (x : Read) → x ≡ wordAt poptagWord s 0 → x ≡ Read.Miss → DidForm base (poptagForm s) o t t Formed.Miss
 unfolding bytes
-poptag-none base s o t x v h = rw (poptag-off s (sym v ∙ h)) (refl, refl)
+poptag-none base s o t x v h = rw (poptag-off s (sym v ∙ h)) (refl, poured-none (o .rows) t)
 
 pub ruleset word-laws = (option-word, option-next, include-word, include-next, pushtag-word, pushtag-next, poptag-word, poptag-none)
 
@@ -298,8 +296,8 @@ unfolding blank blankFormed asEntry outs
 blank-done base s o t = go (eqb (getD s (runTo inLine s 0) 0) 10)
   where
     go : (b : Bool) → DidForm base (cond b (asEntry 1 0 (To (runTo inLine s 0 + 1) [])) Miss) o t t (cond b (Formed.Read 1 0 (runTo inLine s 0 + 1) o) Formed.Miss)
-    go true = (refl, sym (pourAt-none (o .rows) t))
-    go false = (refl, refl)
+    go true = (refl, poured-none (o .rows) t)
+    go false = (refl, poured-none (o .rows) t)
 
 else-assoc : (a b c : Ans Form) → ((a else b) else c) ≡ (a else (b else c))
 unfolding _else_

@@ -94,21 +94,17 @@ pub fn formed_as(kind: usize, date: usize, r: Ran) -> Formed
     }
 }
 
-// A content, line end (a plain miss), metadata. The content is read first into no table: where its line end misses, nothing is written.
+// A content, line end (a plain miss), metadata. Where the line end misses, the rows that were written are covered by those that come next.
 fn content_end(s: &[u8], at: usize, kind: usize, base: usize, table: &mut [u8], out: Out) -> Ran
     requires { ⌜ (base ≤ 16777216) × (length (now s) ≤ 16777216) × (at ≤ length (now s)) × (out .rows ≤ at) ⌝ }
     ensures { λ r. ⌜ Did base (contentEnd kind (now (s .entry)) at) out (now (table .entry)) (now (table .exit)) r ⌝ }
 {
-    let mut none = [0u8; 1];
-    let c = content::content::content_at(s, at, kind, base, &mut none, out);
+    let c = content::content::content_at(s, at, kind, base, table, out);
     match c {
         Ran::To(e, o) => {
             let l = line::line_end(s, e);
             match l {
-                Read::To(f) => {
-                    content::content::content_at(s, at, kind, base, table, out);
-                    metadata::metadata_at(s, f, base, table, o)
-                }
+                Read::To(f) => metadata::metadata_at(s, f, base, table, o),
                 Read::Miss => Ran::Miss,
             }
         }

@@ -1,32 +1,34 @@
 -- Plain reading: its answers and its table, each from what the code knows where it answers.
-use Prim.Native.Nat.{ℕ, _/_, _≤_, _<_}
+use Prim.Native.Nat.{ℕ, _*_, _-_, _/_, _≤_, _<_}
 use native.Mathlib.Nat.{zero-add}
 use native.Mathlib.Omega.{arith}
 use mathlib.Core.Path.{_≡_, refl, sym, _∙_, ap, subst}
-use mathlib.Core.List.{List, [], _∷_, map}
+use mathlib.Core.List.{List, [], _∷_, _++_, map, append-nil}
 use borrow.Author.Tests.{le-leb, lt-leb, lt-ltb, le-ltb}
-use lib.ListN.{length, length-map}
+use borrow.Rule.Slice.PartMut.{putMid}
+use lib.ListN.{length, length-map, take, drop, length-take, drop-of-length-le}
 use Rattle.text.specs.Permitted.{clean}
 use Rattle.row.specs.declared.table.Row.{Row}
-use Rattle.row.specs.Row.{pour}
+use Rattle.row.specs.Row.{pour, rowsBytes}
+use Rattle.row.specs.steps.Writing.{Poured}
 use Rattle.row.specs.steps.Sweep.{linesSet}
-use Rattle.row.proofs.PourLaws.{pour-room}
+use Rattle.row.proofs.PourLaws.{pour-room, pour-all, pour-append, pourAt-full, pourAt-zero, length-pour}
 use Rattle.row.proofs.SweepLaws.{Low, lines-poured}
 use Rattle.entry.proofs.EntryLines.{Each, OnLine}
 use Rattle.ledger.specs.Plain.{Reading, accepted, denied, partAt, part, plain}
 use Rattle.ledger.specs.Answers.{answer, left}
 use Rattle.ledger.specs.steps.Scan.{withLine, scanned, scanAnswer, ScanPoured}
 use Rattle.ledger.specs.declared.read.Answer.{Answer}
-use Rattle.ledger.specs.declared.read.Scan.{Scan}
+use Rattle.ledger.specs.declared.scan.Scan.{Scan}
 use Rattle.ledger.proofs.PlainLaws.{part-kept, part-lined, lined-again}
 
 -- ---- a ledger whose bytes may all stand
 
-part-scanned : (s : List ℕ) → length s ≤ clean s → part s ≡ scanned s
+part-scanned : (s : List ℕ) → length s ≤ clean s → part s ≡ scanned 0 s
 unfolding partAt scanned
 part-scanned s c = rw (le-ltb (clean s) (length s) c)
 
-plain-scanned : (s : List ℕ) → length s ≤ 16777216 → length s ≤ clean s → plain s ≡ scanned s
+plain-scanned : (s : List ℕ) → length s ≤ 16777216 → length s ≤ clean s → plain s ≡ scanned 0 s
 unfolding plain
 plain-scanned s l c = rw (le-leb (length s) 16777216 l) (part-scanned s c)
 
@@ -45,14 +47,24 @@ lines-left s rs t e l h =
     ∙ lines-poured s (map (withLine 0) rs) t (low-rows s rs l (part-kept s rs e .lines))
     ∙ rw (lined-again s 0 rs, part-lined s rs e, pour-room rs t h, le-leb (length rs) (length t / 32) h)
 
+-- rows into the part of a table that they fill: none fits behind them
+filled : (n : ℕ) (rs : List Row) (t v : List ℕ) → n ≡ length rs → n ≤ length t / 32 → Poured 0 rs (take (n * 32) (drop 0 t)) v → putMid 0 (n * 32) t v ≡ pour rs t
+filled n rs t v e h (xs, p) =
+    let a = take (n * 32) t in
+    let la : length a ≡ n * 32 = rw length-take (omega arith) in
+    let full : pour (rs ++ xs) a ≡ pour rs a =
+    pour-append rs xs a ∙ pourAt-full (length rs) xs (pour rs a) (rw (length-pour, la) (omega arith)) in
+    let b : pour rs a ≡ rowsBytes rs = pour-all rs a (rw la (omega arith)) ∙ rw (drop-of-length-le a {i = length rs * 32} (rw la (omega arith))) (append-nil (rowsBytes rs)) in
+    rw (p ∙ pourAt-zero (rs ++ xs) a ∙ full ∙ b, pour-all rs t (omega arith), e)
+
 -- ---- the second pass: the first answered that n rows are wanted
 
-module _ (s : List ℕ) (n : ℕ) (l : length s ≤ 16777216) (c : length s ≤ clean s) (w : Scan.Whole n ≡ scanAnswer (scanned s)) (t : List ℕ) where
-  was-whole : (rs : List Row) × (scanned s ≡ accepted rs) × (n ≡ length rs)
+module _ (s : List ℕ) (n : ℕ) (l : length s ≤ 16777216) (c : length s ≤ clean s) (w : Scan.Whole n ≡ scanAnswer (scanned 0 s)) (t : List ℕ) where
+  was-whole : (rs : List Row) × (scanned 0 s ≡ accepted rs) × (n ≡ length rs)
   unfolding scanAnswer
-  was-whole = go (scanned s) refl w
+  was-whole = go (scanned 0 s) refl w
     where
-      go : (x : Reading) → scanned s ≡ x → Scan.Whole n ≡ scanAnswer x → (rs : List Row) × (scanned s ≡ accepted rs) × (n ≡ length rs)
+      go : (x : Reading) → scanned 0 s ≡ x → Scan.Whole n ≡ scanAnswer x → (rs : List Row) × (scanned 0 s ≡ accepted rs) × (n ≡ length rs)
       go (accepted rs) e q = (rs, e, cc)
       go (denied k p) e q = absurd (let z : _≡_ {A = ℕ} 0 1 = cc in omega arith)
 
@@ -79,12 +91,14 @@ module _ (s : List ℕ) (n : ℕ) (l : length s ≤ 16777216) (c : length s ≤ 
     unfolding answer
     written-rows = ap Answer.Rows (was-whole .2) ∙ rw (plain-whole, le-leb (length (was-whole .0)) (length t / 32) room)
 
-    pub written-table : (v u : List ℕ) → ScanPoured (scanned s) t v → u ≡ linesSet s n v → u ≡ left (plain s) t
+    pub written-table : (v u : List ℕ) → ScanPoured (scanned 0 s) (take (n * 32 - 0) (drop 0 t)) v → u ≡ linesSet s n (putMid 0 (n * 32 - 0) t v) → u ≡ left (plain s) t
     written-table v u p q =
         let rs = was-whole .0 in
-        let y = subst (λ x. ScanPoured x t v) (was-whole .1) p in
+        let z : n * 32 - 0 ≡ n * 32 = omega arith in
+        let y = subst (λ k. ScanPoured (accepted rs) (take k (drop 0 t)) v) z (subst (λ x. ScanPoured x (take (n * 32 - 0) (drop 0 t)) v) (was-whole .1) p) in
         q
-        ∙ ap (linesSet s n) y
+        ∙ ap (λ k. linesSet s n (putMid 0 k t v)) z
+        ∙ ap (linesSet s n) (filled n (map (withLine 0) rs) t v (was-whole .2 ∙ sym (length-map rs (withLine 0))) h y)
         ∙ ap (λ k. linesSet s k (pour (map (withLine 0) rs) t)) (was-whole .2)
         ∙ lines-left s rs t (part-scanned s c ∙ was-whole .1) l room
         ∙ ap (λ x. left x t) (sym plain-whole)
@@ -127,11 +141,11 @@ module _ (s : List ℕ) (l : length s ≤ 16777216) (c : ℕ) (e : c ≡ clean s
     pub read-byte-left : (t : List ℕ) → t ≡ left (plain s) t
     read-byte-left = denied-left s 2 c plain-byte
 
-  module _ (h : length s ≤ c) (m : Scan) (q : m ≡ scanAnswer (scanned s)) where
+  module _ (h : length s ≤ c) (m : Scan) (q : m ≡ scanAnswer (scanned 0 s)) where
     module _ (k p : ℕ) (i : m ≡ Scan.Stopped k p) where
       plain-stopped : plain s ≡ denied k p
       unfolding scanAnswer
-      plain-stopped = plain-scanned s l (subst (λ x. length s ≤ x) e h) ∙ go (scanned s) (sym i ∙ q)
+      plain-stopped = plain-scanned s l (subst (λ x. length s ≤ x) e h) ∙ go (scanned 0 s) (sym i ∙ q)
         where
           go : (x : Reading) → Scan.Stopped k p ≡ scanAnswer x → x ≡ denied k p
           go (accepted rs) z = absurd (let y : _≡_ {A = ℕ} 0 1 = cc in omega arith)
@@ -147,7 +161,7 @@ module _ (s : List ℕ) (l : length s ≤ 16777216) (c : ℕ) (e : c ≡ clean s
 pub all-clean : (s : List ℕ) (c : ℕ) → c ≡ clean s → length s ≤ c → length s ≤ clean s
 all-clean s c e h = omega arith
 
-pub first-whole : (s : List ℕ) (m : Scan) (n : ℕ) → m ≡ scanAnswer (scanned s) → m ≡ Scan.Whole n → Scan.Whole n ≡ scanAnswer (scanned s)
+pub first-whole : (s : List ℕ) (m : Scan) (n : ℕ) → m ≡ scanAnswer (scanned 0 s) → m ≡ Scan.Whole n → Scan.Whole n ≡ scanAnswer (scanned 0 s)
 first-whole s m n q h = sym h ∙ q
 
 pub ruleset read-laws = (read-large, read-large-left, read-byte, read-byte-left, read-stopped, read-stopped-left, all-clean, first-whole)

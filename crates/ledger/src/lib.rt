@@ -1,2 +1,3 @@
 // Plain reading.
 pub mod read;
+pub mod scan;

@@ -1,7 +1,8 @@
 // Plain reading. The first pass, into no table, gives the verdict and the need; the second writes.
-use entry::entry::Entry;
+use crate::scan;
+use crate::scan::Scan;
 use row::lines;
-use row::table;
+use row::table::WIDTH;
 use text::permitted;
 ghost use mathlib.Core.Path.{_≡_};
 ghost use Prim.Native.Nat.{_/_, _≤_};
@@ -9,16 +10,10 @@ ghost use lib.ListN.{length};
 ghost use Rattle.text.specs.Permitted.{clean};
 ghost use Rattle.ledger.specs.Plain.{plain};
 ghost use Rattle.ledger.specs.Answers.{answer, left};
-ghost use Rattle.ledger.specs.steps.Scan.{scanned, scanAnswer, ScanPoured};
+ghost use Rattle.ledger.specs.steps.Scan.{scanned, scanAnswer};
 
 // A ledger's bytes at the most (refusal 1).
 const SIZE: usize = 16_777_216;
-
-// What reading entry by entry finds: so many rows, or a refusal's number and place.
-pub enum Scan {
-    Whole(usize),
-    Stopped(usize, usize),
-}
 
 pub enum Answer {
     Rows(usize),
@@ -27,30 +22,6 @@ pub enum Answer {
         place: usize,
         count: usize,
     },
-}
-
-// Reads s entry by entry; the rows go to the table's front, where they fit, with no lines yet.
-fn entries(s: &[u8], table: &mut [u8]) -> Scan
-    requires { ⌜ length (now s) ≤ 16777216 ⌝ }
-    ensures answer { λ r. ⌜ r ≡ scanAnswer (scanned (now (s .entry))) ⌝ }
-    ensures rows { λ _. ⌜ ScanPoured (scanned (now (s .entry))) (now (table .entry)) (now (table .exit)) ⌝ }
-{
-    let mut at = 0;
-    let mut n = 0;
-    while at < s.len() {
-        let k = table::place(n, table.len());
-        let e = entry::entry::entry_at(&s[at..], at, &mut table[k..]);
-        match e {
-            Entry::Refused(number, p) => {
-                return Scan::Stopped(number, at + p);
-            }
-            Entry::Read(len, rows) => {
-                at += len;
-                n += rows;
-            }
-        }
-    }
-    Scan::Whole(n)
 }
 
 fn refusal(number: usize, place: usize, count: usize) -> Answer
@@ -63,16 +34,17 @@ fn refusal(number: usize, place: usize, count: usize) -> Answer
     }
 }
 
-// The second pass, which writes: n rows, if there is room for them.
+// The second pass, which writes: n rows, if there is room for them. It is lent the part of the table that they fill, so that no other byte changes.
 fn written(ledger: &[u8], table: &mut [u8], n: usize) -> Answer
-    requires { ⌜ (length (now ledger) ≤ 16777216) × (length (now ledger) ≤ clean (now ledger)) × (Scan.Whole n ≡ scanAnswer (scanned (now ledger))) ⌝ }
+    requires { ⌜ (length (now ledger) ≤ 16777216) × (length (now ledger) ≤ clean (now ledger)) × (Scan.Whole n ≡ scanAnswer (scanned 0 (now ledger))) ⌝ }
     ensures answer { λ r. ⌜ r ≡ answer (plain (now (ledger .entry))) (length (now (table .entry)) / 32) ⌝ }
     ensures rows { λ _. ⌜ now (table .exit) ≡ left (plain (now (ledger .entry))) (now (table .entry)) ⌝ }
 {
-    if table.len() / 32 < n {
+    if table.len() / WIDTH < n {
         return refusal(9, 0, n);
     }
-    entries(ledger, table);
+    let end = n * WIDTH;
+    scan::entries(ledger, 0, &mut table[0..end]);
     lines::set_lines(ledger, table, n);
     Answer::Rows(n)
 }
@@ -90,7 +62,7 @@ pub fn read(ledger: &[u8], table: &mut [u8]) -> Answer
         return refusal(2, c, 0);
     }
     let mut none = [0u8; 1];
-    let m = entries(ledger, &mut none);
+    let m = scan::entries(ledger, 0, &mut none);
     match m {
         Scan::Stopped(number, place) => refusal(number, place, 0),
         Scan::Whole(n) => written(ledger, table, n),

@@ -15,10 +15,9 @@ use Rattle.amount.proofs.RowCounts.{fits-at}
 use Rattle.row.specs.steps.Writing.{Did}
 use Rattle.row.specs.declared.writer.Out.{Out}
 use Rattle.row.specs.declared.writer.Ran.{Ran}
-use Rattle.row.proofs.OutLaws.{rows-outs}
-use Rattle.row.proofs.SureLaws.{Sure, firm-sure, sure-many}
+use Rattle.row.proofs.OutLaws.{rows-outs, poured-none}
 use Rattle.row.proofs.DidLaws.{did-none, did-miss, was-read, and-read, and-miss, and-hard, else-read, else-miss, else-hard}
-use Rattle.posting.specs.Metadata.{metaStep, metadata}
+use Rattle.posting.specs.Metadata.{metadata}
 use Rattle.posting.specs.Postings.{postingLine, posting, bodyStep, body}
 use Rattle.posting.proofs.PostingEnds.{posting-line-reach, body-step-reach}
 use Rattle.posting.proofs.PostingFew.{posting-line-fits, body-step-fits}
@@ -32,10 +31,6 @@ Room base s at o = (base ≤ 16777216) × (length s ≤ 16777216) × (at ≤ len
 
 -- ---- a posting and its metadata: x is the posting's answer
 
-metadata-sure : (s : List ℕ) (at : ℕ) → Sure (metadata s at)
-unfolding metadata
-metadata-sure s at = sure-many (metaStep s) (suc (length s)) at
-
 module _ (base : ℕ) (s : List ℕ) (at : ℕ) (o : Out) (t v : List ℕ) (x : Ran) (d : Did base (postingLine s at) o t v x) where
   pub posting-room : (e : ℕ) (m : Out) → x ≡ Ran.To e m → base ≤ 16777216 → length s ≤ 16777216 → at ≤ length s → o .rows ≤ at → Room base s e m
   posting-room e m q b n h l =
@@ -46,7 +41,7 @@ module _ (base : ℕ) (s : List ℕ) (at : ℕ) (o : Out) (t v : List ℕ) (x : 
 
   pub posting-read : (e : ℕ) (m : Out) (u : List ℕ) (r : Ran) → x ≡ Ran.To e m → Did base (metadata s e) m v u r → Did base (posting s at) o t u r
   unfolding posting
-  posting-read e m u r q h = and-read base o t v x (postingLine s at) (metadata s) d e m u r q (firm-sure (metadata-sure s e)) h
+  posting-read e m u r q h = and-read base o t v x (postingLine s at) (metadata s) d e m u r q h
 
   pub posting-miss : x ≡ Ran.Miss → Did base (posting s at) o t v Ran.Miss
   unfolding posting
@@ -72,7 +67,7 @@ module _ (base : ℕ) (s : List ℕ) (at : ℕ) (o : Out) (t v : List ℕ) (x : 
 
     pub body-miss : l ≡ Read.Miss → Did base (bodyStep s at) o t v Ran.Miss
     unfolding bodyStep emptyLine token
-    body-miss k = else-miss base o t v x (posting s at) (token (emptyAt s at)) d v Ran.Miss q (rw (← w, k) (refl, refl))
+    body-miss k = else-miss base o t v x (posting s at) (token (emptyAt s at)) d v Ran.Miss q (rw (← w, k) (refl, poured-none (o .rows) v))
 
   pub body-hard : (k p : ℕ) (u : List ℕ) → x ≡ Ran.Hard k p → Did base (bodyStep s at) o t u (Ran.Hard k p)
   unfolding bodyStep

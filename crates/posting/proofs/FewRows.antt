@@ -6,16 +6,15 @@ use mathlib.Core.List.{List, [], _∷_, _++_}
 use lib.ListN.{length, length-append}
 use Rattle.text.specs.Run.{blanks}
 use Rattle.text.specs.Answer.{Ans, To, Miss, Hard, _then_, _else_, more, _and_, maybe}
-use Rattle.text.specs.Leaves.{gap, account, lineEnd, date, byte}
+use Rattle.text.specs.Leaves.{gap, account, date, byte}
 use Rattle.amount.specs.declared.detail.Detail.{Detail}
 use Rattle.amount.specs.Details.{Rows}
 use Rattle.amount.specs.Amounts.{amount}
-use Rattle.amount.proofs.RowCounts.{Bare, gap-bare, line-bare, account-bare, byte-bare}
-use Rattle.posting.specs.Costs.{price, comma, Lot, inside, cost}
-use Rattle.posting.specs.Postings.{postingFlag, units, postingLine}
+use Rattle.amount.proofs.RowCounts.{Bare, gap-bare, byte-bare}
+use Rattle.posting.specs.Costs.{price, comma, inside, cost}
 use Rattle.posting.specs.steps.Lots.{optionalCost}
 use Rattle.posting.proofs.OneRows.{OneRow, row, none, hard}
-use Rattle.posting.proofs.LotLaws.{amount-row, price-row}
+use Rattle.posting.proofs.LotLaws.{amount-row}
 use Rattle.posting.proofs.PostingFew.{held}
 
 -- ---- at most n rows, where w takes the rows out of what was read
@@ -120,21 +119,3 @@ module _ (s : List ℕ) where
   pub optional-cost-few : (at : ℕ) → Few 2 (optionalCost s at)
   unfolding optionalCost
   optional-cost-few at = spaced-few 2 (cost s) cost-few at
-
-  units-few : (at : ℕ) → Few 4 (units s at)
-  unfolding units
-  units-few at =
-      and-few 0 4 4 (gap s at) _ (omega arith) (bare-few _ (gap-bare s at)) (λ g.
-      and-few 1 3 4 (amount 26 s g) _ (omega arith) (amount-few 26 g (omega arith)) (λ e.
-      and-few 2 1 3 (maybe e _) _ (omega arith) (spaced-few 2 (cost s) cost-few e) (λ f.
-      spaced-few 1 (price s) (λ i. row-few _ (price-row s i)) f)))
-
-  pub posting-line-few : (at : ℕ) → Few 5 (postingLine s at)
-  unfolding postingLine
-  posting-line-few at =
-      and-few 0 5 5 (gap s at) _ (omega arith) (bare-few _ (gap-bare s at)) (λ g.
-      then-any 5 (postingFlag s g) _ (λ a f.
-      and-few 0 5 5 (account s a) _ (omega arith) (bare-few _ (account-bare s a)) (λ e.
-      and-few 1 4 5 (To e _) _ (omega arith) (to-few 1 e _ (omega arith)) (λ e.
-      and-few 4 0 4 (maybe e (units s e)) _ (omega arith) (maybe-few 4 e _ (units-few e)) (λ m.
-      bare-few _ (line-bare s m))))))

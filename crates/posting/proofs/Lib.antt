@@ -9,5 +9,4 @@ pub mod LotWrites
 pub mod FlagLaws
 pub mod FewRows
 pub mod PostWrites
-pub mod CountLaws
 pub mod BodyWrites

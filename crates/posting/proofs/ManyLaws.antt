@@ -13,8 +13,8 @@ use Rattle.row.specs.steps.Writing.{Did}
 use Rattle.row.specs.declared.writer.Out.{Out}
 use Rattle.row.specs.declared.writer.Ran.{Ran}
 use Rattle.row.proofs.OutLaws.{rows-outs}
-use Rattle.row.proofs.SureLaws.{sure-more, sure-many, firm-sure}
-use Rattle.row.proofs.DidLaws.{did-none, did-more, maybe-sure, was-read, was-miss, was-hard}
+use Rattle.row.proofs.SureLaws.{sure-more, sure-many}
+use Rattle.row.proofs.DidLaws.{did-none, did-more, did-past, maybe-sure, was-read, was-miss, was-hard}
 
 -- a reader for such a loop: it takes a byte at least, makes no more rows than it takes bytes, and misses at the end
 pub record Stepping (n : ℕ) (f : ℕ → Rows) : Type 0 where
@@ -88,14 +88,14 @@ module _ (base n : ℕ) (f : ℕ → Rows) (a₀ : Rows) (o₀ : Out) (t₀ : Li
               λ u w d.
               R .lead u w
               (rw (many-on n f i S (R .inside) e ds (z .1))
-              (maybe-sure base o t u w i (sure-more ds sure) (did-more base o t ds many′ m v u w (z .2) (firm-sure sure) d)));
+              (maybe-sure base o t u w i (sure-more ds sure) (did-more base o t ds many′ m v u w (z .2) d)));
           inside = many-ends n f i S (R .inside) e ds (z .1) .1;
           few = omega (arith, R .few, ap (λ (x : Out). x .rows) (z .2 .0), rows-outs ds o, fits-at i e ds (f i) (S .fits i (R .inside)) (z .1) .1);
           same = l ∙ R .same;
         }
 
     pub runs-stop : r ≡ Ran.Miss → Did base a₀ o₀ t₀ v (Ran.To i o)
-    runs-stop q = let z = was-miss base o t v r (f i) D q in R .lead v (Ran.To i o) (rw (many-miss n f i (z .0), z .1) (did-none base o t i))
+    runs-stop q = let z = was-miss base o t v r (f i) D q in R .lead v (Ran.To i o) (rw (many-miss n f i (z .0)) (did-past base (To i []) o t v v (Ran.To i o) (z .1) (did-none base o v i)))
 
     pub runs-halt : (k p : ℕ) (u : List ℕ) → r ≡ Ran.Hard k p → Did base a₀ o₀ t₀ u (Ran.Hard k p)
     runs-halt k p u q = R .lead u (Ran.Hard k p) (rw (many-hard n f i k p (was-hard base o t v r (f i) k p D q)) refl)

@@ -19,6 +19,7 @@ use Rattle.row.specs.Details.{laid}
 use Rattle.row.specs.steps.Writing.{noted, Did}
 use Rattle.row.specs.declared.writer.Out.{Out}
 use Rattle.row.specs.declared.writer.Ran.{Ran}
+use Rattle.row.proofs.OutLaws.{poured-none}
 use Rattle.row.proofs.DidLaws.{did-none, did-emit}
 use Rattle.posting.specs.Metadata.{metaLine, metaStep, metadata}
 use Rattle.posting.proofs.PostingEnds.{meta-step-reach}
@@ -42,7 +43,7 @@ module _ (base : ℕ) (s : List ℕ) (at : ℕ) (o : Out) (t : List ℕ) (x : On
 
     pub step-miss : l ≡ Read.Miss → Did base (metaStep s at) o t t Ran.Miss
     unfolding metaStep _else_ emptyLine token
-    step-miss n = rw (one-miss (metaLine s at) x p q, ← w, n) (refl, refl)
+    step-miss n = rw (one-miss (metaLine s at) x p q, ← w, n) (refl, poured-none (o .rows) t)
 
   pub step-hard : (k i : ℕ) (u : List ℕ) → x ≡ One.Hard k i → Did base (metaStep s at) o t u (Ran.Hard k i)
   unfolding metaStep _else_

@@ -18,13 +18,13 @@ use Rattle.amount.specs.declared.detail.Detail.{Detail}
 use Rattle.amount.specs.declared.detail.One.{One}
 use Rattle.row.specs.Row.{pourAt}
 use Rattle.row.specs.Details.{laid}
-use Rattle.row.specs.steps.Writing.{noted, Did, Tried}
+use Rattle.row.specs.steps.Writing.{noted, Did}
 use Rattle.row.specs.declared.writer.Out.{Out}
 use Rattle.row.specs.declared.writer.Ran.{Ran}
-use Rattle.row.proofs.OutLaws.{rows-noted, rows-outs, wrote-one}
-use Rattle.row.proofs.SureLaws.{Sure, firm-sure, sure-and, sure-more, sure-maybe}
+use Rattle.row.proofs.OutLaws.{rows-noted, rows-outs, wrote-one, written}
+use Rattle.row.proofs.SureLaws.{Sure, sure-and, sure-more, sure-maybe}
 use Rattle.row.proofs.DidLaws.{did-none, did-more, maybe-sure, was-read, and-read, and-miss, and-hard}
-use Rattle.row.proofs.TriedLaws.{did-tried, tried-more, tried-and, tried-and-miss, tried-and-hard, tried-token, tried-token-miss, tried-named, tried-named-miss, tried-named-hard}
+use Rattle.row.proofs.TokenLaws.{token-read, token-end, token-end-miss, token-miss as token-off, account-read, account-miss, account-hard}
 use Rattle.posting.specs.Postings.{isFlag, flag, postingFlag, units, postingLine}
 use Rattle.posting.specs.steps.Lots.{optionalPrice, optionalCost}
 use Rattle.posting.specs.steps.Parts.{flagGap, costsOf, unitsOf, unitsEnd, holderOf, flaggedOf}
@@ -50,7 +50,7 @@ module _ (base : ℕ) (s : List ℕ) (at : ℕ) (o : Out) (t v : List ℕ) (x : 
 
   pub costs-read : (e : ℕ) (m : Out) (u : List ℕ) (r : Ran) → x ≡ Ran.To e m → Did base (optionalPrice s e) m v u r → Did base (costsOf s at) o t u r
   unfolding costsOf
-  costs-read e m u r q h = and-read base o t v x (optionalCost s at) (optionalPrice s) d e m u r q (firm-sure (price-sure s e)) h
+  costs-read e m u r q h = and-read base o t v x (optionalCost s at) (optionalPrice s) d e m u r q h
 
   pub costs-miss : x ≡ Ran.Miss → Did base (costsOf s at) o t v Ran.Miss
   unfolding costsOf
@@ -96,7 +96,7 @@ module _ (base : ℕ) (s : List ℕ) (at : ℕ) (o : Out) (t : List ℕ) (g : Re
     units-read e d m w u r k f h z =
         rw (units-on, one-read x e d (amount-row 26 s j (omega arith)) v k)
         (maybe-sure base o t u r at (sure-more (d ∷ []) (costs-sure s e))
-        (did-more base o t (d ∷ []) (costsOf s e) m w u r (wrote-one base o t d m w f h) (firm-sure (costs-sure s e)) z))
+        (did-more base o t (d ∷ []) (costsOf s e) m w u r (written base o t (d ∷ []) m w (wrote-one base o t d m w f h)) z))
 
 -- a row more leaves room
 module _ (o : Out) (d : Detail) (m : Out) (p : m ≡ noted o d) (base : ℕ) (h : base ≤ 16777216) where
@@ -111,34 +111,31 @@ pub ruleset units-laws = (units-bare, units-none, units-hard, units-read, units-
 -- ---- units, line end: x is the answer of the units, l that of the line end
 
 module _ (base : ℕ) (s : List ℕ) (at : ℕ) (o : Out) (t : List ℕ) (l : Read) (p : l ≡ lineEndAt s at) where
-  line-to : (f : ℕ) → l ≡ Read.To f → Tried base (lineEnd s at) o t t (Ran.To f o)
-  unfolding lineEnd token
-  line-to f q = rw (← p, q) (did-none base o t f)
+  line-to : (f : ℕ) → l ≡ Read.To f → Did base (lineEnd s at) o t t (Ran.To f o)
+  unfolding lineEnd
+  line-to f q = token-end base o t l (lineEndAt s at) p f q
 
-  line-no : l ≡ Read.Miss → Tried base (lineEnd s at) o t t Ran.Miss
-  unfolding lineEnd token
-  line-no q = rw (← p, q) refl
+  line-no : l ≡ Read.Miss → Did base (lineEnd s at) o t t Ran.Miss
+  unfolding lineEnd
+  line-no q = token-end-miss base o t l (lineEndAt s at) p q
 
 module _ (base : ℕ) (s : List ℕ) (at : ℕ) (o : Out) (t v : List ℕ) (x : Ran) (d : Did base (unitsOf s at) o t v x) where
-  tried : Tried base (unitsOf s at) o t v x
-  tried = did-tried base o t (unitsOf s at) v x d
-
   module _ (e : ℕ) (m : Out) (q : x ≡ Ran.To e m) (l : Read) (w : l ≡ lineEndAt s e) where
-    pub ended-read : (f : ℕ) → l ≡ Read.To f → Tried base (unitsEnd s at) o t v (Ran.To f m)
+    pub ended-read : (f : ℕ) → l ≡ Read.To f → Did base (unitsEnd s at) o t v (Ran.To f m)
     unfolding unitsEnd
-    ended-read f k = tried-and base o t (unitsOf s at) (lineEnd s) v x tried e m v (Ran.To f m) q (line-to base s e m v l w f k)
+    ended-read f k = and-read base o t v x (unitsOf s at) (lineEnd s) d e m v (Ran.To f m) q (line-to base s e m v l w f k)
 
-    pub ended-open : l ≡ Read.Miss → Tried base (unitsEnd s at) o t v Ran.Miss
+    pub ended-open : l ≡ Read.Miss → Did base (unitsEnd s at) o t v Ran.Miss
     unfolding unitsEnd
-    ended-open k = tried-and base o t (unitsOf s at) (lineEnd s) v x tried e m v Ran.Miss q (line-no base s e m v l w k)
+    ended-open k = and-read base o t v x (unitsOf s at) (lineEnd s) d e m v Ran.Miss q (line-no base s e m v l w k)
 
-  pub ended-miss : x ≡ Ran.Miss → Tried base (unitsEnd s at) o t v Ran.Miss
+  pub ended-miss : x ≡ Ran.Miss → Did base (unitsEnd s at) o t v Ran.Miss
   unfolding unitsEnd
-  ended-miss q = tried-and-miss base o t (unitsOf s at) (lineEnd s) v x tried v q
+  ended-miss q = and-miss base o t v x (unitsOf s at) (lineEnd s) d q
 
-  pub ended-hard : (k p : ℕ) → x ≡ Ran.Hard k p → Tried base (unitsEnd s at) o t v (Ran.Hard k p)
+  pub ended-hard : (k p : ℕ) → x ≡ Ran.Hard k p → Did base (unitsEnd s at) o t v (Ran.Hard k p)
   unfolding unitsEnd
-  ended-hard k p q = tried-and-hard base o t (unitsOf s at) (lineEnd s) v x tried v k p q
+  ended-hard k p q = and-hard base o t v x (unitsOf s at) (lineEnd s) d k p v q
 
 pub ruleset ended-laws = (ended-read, ended-open, ended-miss, ended-hard)
 
@@ -155,18 +152,18 @@ module _ (base flag : ℕ) (s : List ℕ) (at : ℕ) (o : Out) (t : List ℕ) wh
 
   module _ (x : AccountRead) (p : x ≡ accountAt s at) where
     pub holder-read : (e : ℕ) (z : Detail) (m : Out) (w u : List ℕ) (r : Ran) → x ≡ AccountRead.To e → z ≡ details.named 33 at e flag 0 → m ≡ noted o z
-        → w ≡ pourAt (o .rows) (laid base z ∷ []) t → Tried base (unitsEnd s e) m w u r → Tried base (holderOf flag s at) o t u r
+        → w ≡ pourAt (o .rows) (laid base z ∷ []) t → Did base (unitsEnd s e) m w u r → Did base (holderOf flag s at) o t u r
     unfolding _and_
     holder-read e z m w u r q k f g h =
         rw holder-is
-        (tried-named base o t held u at (accountAt s at) e r (sym p ∙ q)
-        (rw (← k) (tried-more base o t (z ∷ []) (unitsEnd s e) m w u r (wrote-one base o t z m w f g) h)))
+        (account-read base o t at x (accountAt s at) p held e u r q
+        (rw (← k) (did-more base o t (z ∷ []) (unitsEnd s e) m w u r (written base o t (z ∷ []) m w (wrote-one base o t z m w f g)) h)))
 
-    pub holder-miss : (u : List ℕ) → x ≡ AccountRead.Miss → Tried base (holderOf flag s at) o t u Ran.Miss
-    holder-miss u q = rw holder-is (tried-named-miss base o t held u at (accountAt s at) (sym p ∙ q))
+    pub holder-miss : x ≡ AccountRead.Miss → Did base (holderOf flag s at) o t t Ran.Miss
+    holder-miss q = rw holder-is (account-miss base o t at x (accountAt s at) p held q)
 
-    pub holder-hard : (u : List ℕ) → x ≡ AccountRead.Hard → Tried base (holderOf flag s at) o t u (Ran.Hard 4 at)
-    holder-hard u q = rw holder-is (tried-named-hard base o t held u at (accountAt s at) (sym p ∙ q))
+    pub holder-hard : (u : List ℕ) → x ≡ AccountRead.Hard → Did base (holderOf flag s at) o t u (Ran.Hard 4 at)
+    holder-hard u q = rw holder-is (account-hard base o t at x (accountAt s at) p held u q)
 
 pub ruleset holder-laws = (holder-room, holder-read, holder-miss, holder-hard)
 
@@ -191,11 +188,11 @@ module _ (s : List ℕ) (at : ℕ) where
       go false = refl
 
   module _ (base : ℕ) (o : Out) (t : List ℕ) (x : Read) (p : x ≡ flagGap s at) (u : List ℕ) (r : Ran) where
-    pub flagged-read : (j c b : ℕ) → x ≡ Read.To j → c ≡ getD s at 0 → b ≡ c → Tried base (holderOf b s j) o t u r → Tried base (flaggedOf s at) o t u r
+    pub flagged-read : (j c b : ℕ) → x ≡ Read.To j → c ≡ getD s at 0 → b ≡ c → Did base (holderOf b s j) o t u r → Did base (flaggedOf s at) o t u r
     unfolding flaggedOf _then_
     flagged-read j c b q k l h = rw (flag-is, ← p, q, ← k, ← l) h
 
-    pub flagged-plain : x ≡ Read.Miss → Tried base (holderOf 0 s at) o t u r → Tried base (flaggedOf s at) o t u r
+    pub flagged-plain : x ≡ Read.Miss → Did base (holderOf 0 s at) o t u r → Did base (flaggedOf s at) o t u r
     unfolding flaggedOf _then_
     flagged-plain q h = rw (flag-is, ← p, q) h
 
@@ -203,15 +200,15 @@ pub ruleset flagged-laws = (flagged-read, flagged-plain)
 
 -- ---- gap, and what follows it: g is the gap's answer
 
-module _ (base : ℕ) (s : List ℕ) (at : ℕ) (o : Out) (t : List ℕ) (g : Read) (p : g ≡ gapAt s at) (u : List ℕ) where
+module _ (base : ℕ) (s : List ℕ) (at : ℕ) (o : Out) (t : List ℕ) (g : Read) (p : g ≡ gapAt s at) where
   line-is : postingLine s at ≡ (token (gapAt s at) and flaggedOf s)
   unfolding postingLine gap flaggedOf holderOf unitsEnd unitsOf
   line-is = refl
 
-  pub line-on : (j : ℕ) (r : Ran) → g ≡ Read.To j → Tried base (flaggedOf s j) o t u r → Tried base (postingLine s at) o t u r
-  line-on j r q h = rw line-is (tried-token base o t (flaggedOf s) u (gapAt s at) j r (sym p ∙ q) h)
+  pub line-on : (u : List ℕ) (j : ℕ) (r : Ran) → g ≡ Read.To j → Did base (flaggedOf s j) o t u r → Did base (postingLine s at) o t u r
+  line-on u j r q h = rw line-is (token-read base o t g (gapAt s at) p (flaggedOf s) j u r q h)
 
-  pub line-miss : g ≡ Read.Miss → Tried base (postingLine s at) o t u Ran.Miss
-  line-miss q = rw line-is (tried-token-miss base o t (flaggedOf s) u (gapAt s at) (sym p ∙ q))
+  pub line-miss : g ≡ Read.Miss → Did base (postingLine s at) o t t Ran.Miss
+  line-miss q = rw line-is (token-off base o t g (gapAt s at) p (flaggedOf s) q)
 
 pub ruleset line-laws = (line-on, line-miss)

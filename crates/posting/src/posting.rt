@@ -1,4 +1,4 @@
-// Postings (rule 12), up to their line end. Their rows are written also where they miss: the table is one that is given up then.
+// Postings (rule 12), up to their line end. Where one misses, the rows that were written for it are covered by those that come next.
 use crate::cost;
 use amount::amounts;
 use amount::detail;
@@ -13,7 +13,7 @@ use text::bytes;
 use text::line;
 ghost use mathlib.Core.Path.{_≡_};
 ghost use Prim.Native.Nat.{_≤_};
-ghost use Rattle.row.specs.steps.Writing.{Did, Tried};
+ghost use Rattle.row.specs.steps.Writing.{Did};
 ghost use Rattle.posting.specs.Postings.{postingLine};
 ghost use Rattle.posting.specs.steps.Parts.{flagGap, costsOf, unitsOf, unitsEnd, holderOf, flaggedOf};
 
@@ -72,7 +72,7 @@ fn units_at(s: &[u8], at: usize, base: usize, table: &mut [u8], out: Out) -> Ran
 // After the account, whose row is written: units, line end.
 fn units_end(s: &[u8], at: usize, base: usize, table: &mut [u8], out: Out) -> Ran
     requires { ⌜ (base ≤ 16777216) × (out .rows ≤ 33554428) ⌝ }
-    ensures { λ r. ⌜ Tried base (unitsEnd (now (s .entry)) at) out (now (table .entry)) (now (table .exit)) r ⌝ }
+    ensures { λ r. ⌜ Did base (unitsEnd (now (s .entry)) at) out (now (table .entry)) (now (table .exit)) r ⌝ }
 {
     let x = units_at(s, at, base, table, out);
     match x {
@@ -91,7 +91,7 @@ fn units_end(s: &[u8], at: usize, base: usize, table: &mut [u8], out: Out) -> Ra
 // The account of a posting, with its flag; units; line end.
 fn holder_at(s: &[u8], at: usize, flag: usize, base: usize, table: &mut [u8], out: Out) -> Ran
     requires { ⌜ (base ≤ 16777216) × (out .rows ≤ 33554427) ⌝ }
-    ensures { λ r. ⌜ Tried base (holderOf flag (now (s .entry)) at) out (now (table .entry)) (now (table .exit)) r ⌝ }
+    ensures { λ r. ⌜ Did base (holderOf flag (now (s .entry)) at) out (now (table .entry)) (now (table .exit)) r ⌝ }
 {
     let a = account::account(s, at);
     match a {
@@ -113,7 +113,7 @@ fn wide(b: u8) -> usize
 // Optionally flag and gap, account, units, line end.
 fn flagged_at(s: &[u8], at: usize, base: usize, table: &mut [u8], out: Out) -> Ran
     requires { ⌜ (base ≤ 16777216) × (out .rows ≤ 33554427) ⌝ }
-    ensures { λ r. ⌜ Tried base (flaggedOf (now (s .entry)) at) out (now (table .entry)) (now (table .exit)) r ⌝ }
+    ensures { λ r. ⌜ Did base (flaggedOf (now (s .entry)) at) out (now (table .entry)) (now (table .exit)) r ⌝ }
 {
     let f = flag_gap(s, at);
     match f {
@@ -128,7 +128,7 @@ fn flagged_at(s: &[u8], at: usize, base: usize, table: &mut [u8], out: Out) -> R
 // Rule 12, up to the line end.
 pub fn posting_line(s: &[u8], at: usize, base: usize, table: &mut [u8], out: Out) -> Ran
     requires { ⌜ (base ≤ 16777216) × (out .rows ≤ 33554427) ⌝ }
-    ensures { λ r. ⌜ Tried base (postingLine (now (s .entry)) at) out (now (table .entry)) (now (table .exit)) r ⌝ }
+    ensures { λ r. ⌜ Did base (postingLine (now (s .entry)) at) out (now (table .entry)) (now (table .exit)) r ⌝ }
 {
     let g = line::gap(s, at);
     match g {

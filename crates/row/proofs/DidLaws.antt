@@ -2,18 +2,18 @@
 use Prim.Native.Nat.{ℕ, _+_}
 use native.Mathlib.Omega.{arith}
 use mathlib.Core.Path.{_≡_, refl, _∙_, ap}
-use mathlib.Core.List.{List, [], _∷_}
+use mathlib.Core.List.{List, [], _∷_, _++_, map}
 use lib.ListN.{length}
 use Rattle.text.specs.Answer.{To, Miss, Hard, must, _else_, more, _and_, maybe}
 use Rattle.amount.specs.Details.{Rows}
 use Rattle.amount.specs.declared.detail.Detail.{Detail}
 use Rattle.row.specs.Row.{pourAt}
 use Rattle.row.specs.Details.{laid}
-use Rattle.row.specs.steps.Writing.{noted, outs, Did}
+use Rattle.row.specs.steps.Writing.{noted, outs, Poured, Did}
 use Rattle.row.specs.declared.writer.Out.{Out}
 use Rattle.row.specs.declared.writer.Ran.{Ran}
-use Rattle.row.proofs.OutLaws.{rows-outs, Wrote, wrote-none, wrote-one, wrote-then}
-use Rattle.row.proofs.SureLaws.{Sure, sure-to, sure-hard, Firm, firm-sure, firm-to, firm-hard, sures}
+use Rattle.row.proofs.OutLaws.{rows-outs, Wrote, wrote-none, wrote-one, Written, written, written-then, poured-none, poured-drop, poured-past}
+use Rattle.row.proofs.SureLaws.{Sure, sure-to, sure-hard, sures}
 
 -- the rows of an answer
 unfoldable pub count : Rows → ℕ
@@ -26,10 +26,10 @@ count (Hard k p) = 0
 module _ (base : ℕ) (o : Out) (t : List ℕ) where
   pub did-read : (a : Rows) (e : ℕ) (ds : List Detail) (m : Out) (u : List ℕ) → a ≡ To e ds → Wrote base o t ds m u
       → Did base a o t u (Ran.To e m)
-  did-read a e ds m u q w = rw q (ap (Ran.To e) (w .0), w .1)
+  did-read a e ds m u q w = rw q (ap (Ran.To e) (w .0), written base o t ds m u w .1)
 
   pub did-miss : (a : Rows) → a ≡ Miss → Did base a o t t Ran.Miss
-  did-miss a q = rw q (refl, refl)
+  did-miss a q = rw q (refl, poured-none (o .rows) t)
 
   pub did-hard : (a : Rows) (k p : ℕ) (u : List ℕ) → a ≡ Hard k p → Did base a o t u (Ran.Hard k p)
   did-hard a k p u q = rw q refl
@@ -43,6 +43,12 @@ module _ (base : ℕ) (o : Out) (t : List ℕ) where
       → Did base (To e (d ∷ [])) o t u (Ran.To e m)
   did-emit e d x m u p q w = did-read (To e (d ∷ [])) e (d ∷ []) m u refl (rw (← w) (wrote-one base o t x m u p q))
 
+-- the table before rows that were dropped will do as well
+pub did-past : (base : ℕ) (a : Rows) (o : Out) (t v u : List ℕ) (r : Ran) → Poured (o .rows) [] t v → Did base a o v u r → Did base a o t u r
+did-past base (To e ds) o t v u r w d = (d .0, poured-past (o .rows) (map (laid base) ds) t v u w (d .1))
+did-past base Miss o t v u r w d = (d .0, poured-past (o .rows) [] t v u w (d .1))
+did-past base (Hard k p) o t v u r w d = d
+
 -- what follows no detail is as it is
 pub did-bare : (base : ℕ) (a : Rows) (o : Out) (t u : List ℕ) (q : Ran) → Did base a o t u q → Did base (more [] a) o t u q
 unfolding more
@@ -50,25 +56,17 @@ did-bare base (To e ds) o t u q d = d
 did-bare base Miss o t u q d = d
 did-bare base (Hard k p) o t u q d = d
 
--- an answer that the code's answer shows to be no miss
-sure-did : (base : ℕ) (a : Rows) (o : Out) (t u : List ℕ) (q : Ran) → Did base a o t u q → Firm a q → Sure a
-sure-did base (To e ds) o t u q d f = sure-to
-sure-did base (Hard k p) o t u q d f = sure-hard
-sure-did base Miss o t u q d (firm-sure h) = h
-sure-did base Miss o t u q d firm-to = absurd (let z : _≡_ {A = ℕ} 0 1 = cc in omega arith)
-sure-did base Miss o t u q d firm-hard = absurd (let z : _≡_ {A = ℕ} 0 1 = cc in omega arith)
-
 -- details are written, and then what follows them
 pub did-more : (base : ℕ) (o : Out) (t : List ℕ) (xs : List Detail) (a : Rows) (m : Out) (v u : List ℕ) (q : Ran)
-    → Wrote base o t xs m v → Firm a q → Did base a m v u q → Did base (more xs a) o t u q
-unfolding more
-did-more base o t xs a m v u q w f d = go (sure-did base a m v u q d f) d
-  where
-    go : {b : Rows} → Sure b → Did base b m v u q → Did base (more xs b) o t u q
-    go (sure-to {e} {ds}) d =
-        let z = wrote-then base o t xs ds m (outs m ds) v u w (refl, d .1) in
-        (d .0 ∙ ap (Ran.To e) (z .0), z .1)
-    go sure-hard d = d
+    → Written base o t xs m v → Did base a m v u q → Did base (more xs a) o t u q
+unfolding more outs
+did-more base o t xs (To e ds) m v u q w d =
+    let z = written-then base o t xs ds m (outs m ds) v u w (refl, d .1) in
+    (d .0 ∙ ap (Ran.To e) (z .0), z .1)
+did-more base o t xs Miss m v u q w d =
+    let z = written-then base o t xs [] m m v u w (refl, d .1) in
+    (d .0, poured-drop (o .rows) (map (laid base) (xs ++ [])) t u (z .1))
+did-more base o t xs (Hard k p) m v u q w d = d
 
 -- an answer that is no miss, where it may be missing
 pub maybe-sure : (base : ℕ) (o : Out) (t u : List ℕ) (q : Ran) (i : ℕ) {a : Rows} → Sure a → Did base a o t u q
@@ -81,12 +79,12 @@ maybe-sure base o t u q i sure-hard d = d
 
 module _ (base : ℕ) (o : Out) (t v : List ℕ) (r : Ran) where
   pub was-read : (a : Rows) (e : ℕ) (m : Out) → Did base a o t v r → r ≡ Ran.To e m
-      → (ds : List Detail) × (a ≡ To e ds) × Wrote base o t ds m v
+      → (ds : List Detail) × (a ≡ To e ds) × Written base o t ds m v
   was-read (To f ds) e m d h = let p : f ≡ e = cc in (ds, ap (λ (n : ℕ). To n ds) p, (cc, d .1))
   was-read Miss e m d h = absurd (let z : _≡_ {A = ℕ} 0 1 = cc in omega arith)
   was-read (Hard k p) e m d h = absurd (let z : _≡_ {A = ℕ} 0 1 = cc in omega arith)
 
-  pub was-miss : (a : Rows) → Did base a o t v r → r ≡ Ran.Miss → (a ≡ Miss) × (v ≡ t)
+  pub was-miss : (a : Rows) → Did base a o t v r → r ≡ Ran.Miss → (a ≡ Miss) × Poured (o .rows) [] t v
   was-miss (To f ds) d h = absurd (let z : _≡_ {A = ℕ} 0 1 = cc in omega arith)
   was-miss Miss d h = (refl, d .1)
   was-miss (Hard k p) d h = absurd (let z : _≡_ {A = ℕ} 0 1 = cc in omega arith)
@@ -106,10 +104,10 @@ module _ (base : ℕ) (o : Out) (t v : List ℕ) (r : Ran) where
   -- ---- a, and then g
 
   module _ (a : Rows) (g : ℕ → Rows) (d : Did base a o t v r) where
-    pub and-read : (e : ℕ) (m : Out) (u : List ℕ) (q : Ran) → r ≡ Ran.To e m → Firm (g e) q → Did base (g e) m v u q
+    pub and-read : (e : ℕ) (m : Out) (u : List ℕ) (q : Ran) → r ≡ Ran.To e m → Did base (g e) m v u q
         → Did base (a and g) o t u q
     unfolding _and_
-    and-read e m u q h f k = let z = was-read a e m d h in rw (z .1) (did-more base o t (z .0) (g e) m v u q (z .2) f k)
+    and-read e m u q h k = let z = was-read a e m d h in rw (z .1) (did-more base o t (z .0) (g e) m v u q (z .2) k)
 
     pub and-miss : r ≡ Ran.Miss → Did base (a and g) o t v Ran.Miss
     unfolding _and_
@@ -128,7 +126,7 @@ module _ (base : ℕ) (o : Out) (t v : List ℕ) (r : Ran) where
 
     pub else-miss : (u : List ℕ) (q : Ran) → r ≡ Ran.Miss → Did base b o v u q → Did base (a else b) o t u q
     unfolding _else_
-    else-miss u q h k = let z = was-miss a d h in rw (z .0, ← z .1) k
+    else-miss u q h k = let z = was-miss a d h in rw (z .0) (did-past base b o t v u q (z .1) k)
 
     pub else-hard : (k p : ℕ) (u : List ℕ) → r ≡ Ran.Hard k p → Did base (a else b) o t u (Ran.Hard k p)
     unfolding _else_
@@ -143,7 +141,7 @@ module _ (base : ℕ) (o : Out) (t v : List ℕ) (r : Ran) where
 
     pub maybe-miss : r ≡ Ran.Miss → Did base (maybe i a) o t v (Ran.To i o)
     unfolding maybe
-    maybe-miss h = let z = was-miss a d h in rw (z .0, z .1) (did-none base o t i)
+    maybe-miss h = let z = was-miss a d h in rw (z .0) (did-past base (To i []) o t v v (Ran.To i o) (z .1) (did-none base o v i))
 
     pub maybe-hard : (k p : ℕ) (u : List ℕ) → r ≡ Ran.Hard k p → Did base (maybe i a) o t u (Ran.Hard k p)
     unfolding maybe
@@ -164,18 +162,18 @@ module _ (base : ℕ) (o : Out) (t v : List ℕ) (r : Ran) where
 -- ---- the same, and then g
 
 module _ (base : ℕ) (o : Out) (t v : List ℕ) (r : Ran) (i : ℕ) (a : Rows) (g : ℕ → Rows) (d : Did base a o t v r) where
-  pub maybe-and-read : (e : ℕ) (m : Out) (u : List ℕ) (q : Ran) → r ≡ Ran.To e m → Firm (g e) q → Did base (g e) m v u q
+  pub maybe-and-read : (e : ℕ) (m : Out) (u : List ℕ) (q : Ran) → r ≡ Ran.To e m → Did base (g e) m v u q
       → Did base (maybe i a and g) o t u q
   maybe-and-read e m u q h = and-read base o t v (Ran.To e m) (maybe i a) g (maybe-read base o t v r i a d e m h) e m u q refl
 
   pub maybe-and-miss : (u : List ℕ) (q : Ran) → r ≡ Ran.Miss → Did base (g i) o v u q → Did base (maybe i a and g) o t u q
   unfolding maybe _and_
-  maybe-and-miss u q h k = let z = was-miss base o t v r a d h in rw (z .0, ← z .1) (did-bare base (g i) o v u q k)
+  maybe-and-miss u q h k = let z = was-miss base o t v r a d h in rw (z .0) (did-past base (more [] (g i)) o t v u q (z .1) (did-bare base (g i) o v u q k))
 
   pub maybe-and-hard : (k p : ℕ) (u : List ℕ) → r ≡ Ran.Hard k p → Did base (maybe i a and g) o t u (Ran.Hard k p)
   maybe-and-hard k p u h = and-hard base o t v (Ran.Hard k p) (maybe i a) g (maybe-hard base o t v r i a d k p v h) k p u refl
 
-  pub must-and-read : (e : ℕ) (m : Out) (u : List ℕ) (q : Ran) → r ≡ Ran.To e m → Firm (g e) q → Did base (g e) m v u q
+  pub must-and-read : (e : ℕ) (m : Out) (u : List ℕ) (q : Ran) → r ≡ Ran.To e m → Did base (g e) m v u q
       → Did base (must i a and g) o t u q
   must-and-read e m u q h = and-read base o t v (Ran.To e m) (must i a) g (must-read base o t v r i a d e m h) e m u q refl
 

@@ -1,7 +1,6 @@
 pub mod FieldLaws
 pub mod PourLaws
 pub mod TableLaws
-pub mod CopyLaws
 pub mod WriteLaws
 pub mod LineLaws
 pub mod SweepLaws
@@ -9,5 +8,3 @@ pub mod OutLaws
 pub mod SureLaws
 pub mod DidLaws
 pub mod TokenLaws
-pub mod ManyLaws
-pub mod TriedLaws

@@ -2,20 +2,21 @@
 use Prim.Native.Nat.{ℕ, _+_, _≤_}
 use native.Mathlib.Nat.{add-zero}
 use native.Mathlib.Omega.{arith}
-use mathlib.Core.Path.{_≡_, refl, sym, _∙_, ap}
+use mathlib.Core.Path.{_≡_, refl, sym, _∙_, ap, subst}
 use mathlib.Core.Bool.{Bool, true, false}
-use mathlib.Core.List.{List, [], _∷_, _++_, map, map-append}
+use mathlib.Core.List.{List, [], _∷_, _++_, map, map-append, append-assoc, append-nil}
 use lib.Dec.{eqb}
 use borrow.Author.Tests.{eq-eqb, ne-eqb}
-use lib.ListN.{length, length-map}
+use lib.ListN.{length, length-map, drop}
 use Rattle.decimal.specs.declared.Value.{Value}
 use Rattle.decimal.specs.declared.Value.the-variants.{Known, Refused}
 use Rattle.amount.specs.declared.detail.Detail.{Detail}
 use Rattle.row.specs.Row.{pourAt}
 use Rattle.row.specs.Details.{laid}
-use Rattle.row.specs.steps.Writing.{noted, outs, someRow}
+use Rattle.row.specs.steps.Writing.{noted, outs, someRow, Poured}
+use Rattle.row.specs.declared.table.Row.{Row}
 use Rattle.row.specs.declared.writer.Out.{Out}
-use Rattle.row.proofs.PourLaws.{pourAt-none, pourAt-append}
+use Rattle.row.proofs.PourLaws.{pourAt-none, pourAt-append, pourAt-over}
 
 pub outs-append : (xs ys : List Detail) (o : Out) → outs o (xs ++ ys) ≡ outs (outs o xs) ys
 unfolding outs
@@ -65,6 +66,52 @@ module _ (base : ℕ) (o : Out) (t : List ℕ) where
           pourAt-append (map (laid base) xs) (map (laid base) ys) (o .rows) t,
           length-map xs (laid base),
         ),
+  )
+
+-- ---- the same, and maybe others were written behind them
+
+abbrev pub Written : ℕ → Out → List ℕ → List Detail → Out → List ℕ → Type 0
+Written base o t ds m v = (m ≡ outs o ds) × Poured (o .rows) (map (laid base) ds) t v
+
+-- no row was written, or one that is dropped
+pub poured-none : (n : ℕ) (t : List ℕ) → Poured n [] t t
+poured-none n t = ([], sym (pourAt-none n t))
+
+pub poured-drop : (n : ℕ) (rs : List Row) (t u : List ℕ) → Poured n rs t u → Poured n [] t u
+poured-drop n rs t u (xs, e) = (rs ++ xs, e)
+
+-- rows, and then those behind them
+pub poured-then : (n m : ℕ) (rs ys : List Row) (t v u : List ℕ) → m ≡ n + length rs → Poured n rs t v → Poured m ys v u → Poured n (rs ++ ys) t u
+poured-then n m rs ys t v u q (xs, e) (zs, f) =
+    let rest = drop (length (ys ++ zs)) xs in (
+      zs ++ rest,
+      f
+          ∙ rw (
+            e,
+            q,
+            pourAt-append rs xs n t,
+            pourAt-over (n + length rs) (ys ++ zs) xs (pourAt n rs t),
+            append-assoc ys zs rest,
+            append-assoc rs ys (zs ++ rest),
+            pourAt-append rs (ys ++ (zs ++ rest)) n t,
+          ),
+    )
+
+-- rows over a table in which only dropped ones were written
+pub poured-past : (n : ℕ) (ys : List Row) (t v u : List ℕ) → Poured n [] t v → Poured n ys v u → Poured n ys t u
+poured-past n ys t v u w h = poured-then n n [] ys t v u (rw add-zero) w h
+
+module _ (base : ℕ) (o : Out) (t : List ℕ) where
+  pub written : (ds : List Detail) (m : Out) (v : List ℕ) → Wrote base o t ds m v → Written base o t ds m v
+  written ds m v (e, f) = (e, ([], rw append-nil f))
+
+  pub written-then : (xs ys : List Detail) (m n : Out) (v u : List ℕ) → Written base o t xs m v → Written base m v ys n u
+      → Written base o t (xs ++ ys) n u
+  written-then xs ys m n v u w h = (
+    h .0 ∙ ap (λ (z : Out). outs z ys) (w .0) ∙ sym (outs-append xs ys o),
+    subst (λ rs. Poured (o .rows) rs t u) (sym (map-append (laid base) xs ys))
+        (poured-then (o .rows) (m .rows) (map (laid base) xs) (map (laid base) ys) t v u
+        (rw length-map (ap (λ (z : Out). z .rows) (w .0) ∙ rows-outs xs o)) (w .1) (h .1)),
   )
 
 -- there is room for another row

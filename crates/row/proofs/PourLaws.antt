@@ -2,7 +2,7 @@
 use mathlib.Core.Path.{_≡_, refl, sym, _∙_}
 use mathlib.Core.Bool.{Bool, true, false}
 use mathlib.Core.Logic.{_⊎_, inl, inr, ⊎-elim}
-use mathlib.Core.List.{List, [], _∷_, _++_, append-assoc}
+use mathlib.Core.List.{List, [], _∷_, _++_, append-assoc, append-nil}
 use Prim.Native.Nat.{ℕ, suc, _+_, _*_, _/_, _<_, _≤_, min}
 use native.Mathlib.Nat.{add-zero, zero-add}
 use native.Mathlib.Omega.{arith}
@@ -130,6 +130,36 @@ pourAt-append (r ∷ xs) ys n t =
 
 pub pour-append : (xs ys : List Row) (t : List ℕ) → pour (xs ++ ys) t ≡ pourAt (length xs) ys (pour xs t)
 pour-append xs ys t = sym (pourAt-zero (xs ++ ys) t) ∙ pourAt-append xs ys 0 t ∙ rw (zero-add, pourAt-zero)
+
+-- ---- rows over others
+
+-- rows over others: what those reach past them stays
+pour-over : (ys xs : List Row) (t : List ℕ) → pour ys (pour xs t) ≡ pour (ys ++ drop (length ys) xs) t
+pour-over [] xs t = pour-none (pour xs t)
+pour-over (y ∷ ys) [] t = rw (pour-none t, append-nil ys)
+pour-over (y ∷ ys) (x ∷ xs) t =
+    ⊎-elim
+    (λ (h : 32 ≤ length t).
+    let l : 32 ≤ length (rowBytes x ++ pour xs (drop 32 t)) = rw (length-append, length-rowBytes) (omega arith) in
+    rw (
+      pour-fits x xs t h,
+      pour-fits y ys (rowBytes x ++ pour xs (drop 32 t)) l,
+      drop-at (rowBytes x) (pour xs (drop 32 t)) 32 (length-rowBytes x),
+      pour-over ys xs (drop 32 t),
+      pour-fits y (ys ++ drop (length ys) xs) t h,
+    ))
+    (λ (h : length t < 32).
+    rw (pour-short (x ∷ xs) t h, pour-short (y ∷ ys) t h, pour-short (y ∷ ys ++ drop (length ys) xs) t h))
+    (le-or-lt 32 (length t))
+
+pub pourAt-over : (n : ℕ) (ys xs : List Row) (t : List ℕ) → pourAt n ys (pourAt n xs t) ≡ pourAt n (ys ++ drop (length ys) xs) t
+unfolding pourAt
+pourAt-over n ys xs t =
+    let k = placeOf n (length t) in
+    let a = take k t in
+    let lk : length a ≡ k = rw length-take (omega arith) in
+    let le : length (a ++ pour xs (drop k t)) ≡ length t = length-pourAt n xs t in
+    rw (le, take-at a (pour xs (drop k t)) k lk, drop-at a (pour xs (drop k t)) k lk, pour-over ys xs (drop k t))
 
 -- ---- an entry's row, and its details behind it
 

@@ -4,8 +4,6 @@ use mathlib.Core.List.{List}
 use Rattle.text.specs.Answer.{To, Miss, Hard, must, _else_, more, _and_, maybe, many}
 use Rattle.amount.specs.Details.{Rows}
 use Rattle.amount.specs.declared.detail.Detail.{Detail}
-use Rattle.row.specs.declared.writer.Out.{Out}
-use Rattle.row.specs.declared.writer.Ran.{Ran}
 
 pub data Sure : Rows → Type 0 where
   sure-to : {e : ℕ} {ds : List Detail} → Sure (To e ds)
@@ -44,12 +42,6 @@ unfolding _and_
 sure-and g (sure-to {e} {ds}) k = sure-more ds (k e)
 sure-and g sure-hard k = sure-hard
 
--- the answer a of a rule is no miss, or the code's answer r to it is none
-pub data Firm : Rows → Ran → Type 0 where
-  firm-sure : {a : Rows} {r : Ran} → Sure a → Firm a r
-  firm-to : {a : Rows} {e : ℕ} {m : Out} → Firm a (Ran.To e m)
-  firm-hard : {a : Rows} {k p : ℕ} → Firm a (Ran.Hard k p)
-
 pub ruleset sures = (
   sure-to,
   sure-hard,
@@ -59,7 +51,4 @@ pub ruleset sures = (
   sure-else,
   sure-more,
   sure-and,
-  firm-sure,
-  firm-to,
-  firm-hard,
 )

@@ -10,6 +10,7 @@ use Rattle.amount.specs.Details.{Rows}
 use Rattle.row.specs.steps.Writing.{Did}
 use Rattle.row.specs.declared.writer.Out.{Out}
 use Rattle.row.specs.declared.writer.Ran.{Ran}
+use Rattle.row.proofs.OutLaws.{poured-none}
 use Rattle.row.proofs.DidLaws.{did-none, did-bare}
 
 module _ (base : ℕ) (o : Out) (t : List ℕ) where
@@ -22,7 +23,7 @@ module _ (base : ℕ) (o : Out) (t : List ℕ) where
 
     pub bare-miss : a ≡ Miss → Did base (a and g) o t t Ran.Miss
     unfolding _and_
-    bare-miss h = rw h (refl, refl)
+    bare-miss h = rw h (refl, poured-none (o .rows) t)
 
     pub bare-hard : (k p : ℕ) (u : List ℕ) → a ≡ Hard k p → Did base (a and g) o t u (Ran.Hard k p)
     unfolding _and_
@@ -37,7 +38,7 @@ module _ (base : ℕ) (o : Out) (t : List ℕ) where
 
     pub then-miss : a ≡ Miss → Did base (a then f) o t t Ran.Miss
     unfolding _then_
-    then-miss h = rw h (refl, refl)
+    then-miss h = rw h (refl, poured-none (o .rows) t)
 
     pub then-hard : (k p : ℕ) (u : List ℕ) → a ≡ Hard k p → Did base (a then f) o t u (Ran.Hard k p)
     unfolding _then_
@@ -81,7 +82,7 @@ module _ (base : ℕ) (o : Out) (t : List ℕ) where
 
     pub token-end-miss : x ≡ Read.Miss → Did base (token y) o t t Ran.Miss
     unfolding token
-    token-end-miss h = rw (← v, h) (refl, refl)
+    token-end-miss h = rw (← v, h) (refl, poured-none (o .rows) t)
 
     pub must-token-end : (i e : ℕ) → x ≡ Read.To e → Did base (must i (token y)) o t t (Ran.To e o)
     unfolding token must

@@ -2,12 +2,11 @@
 use crate::field;
 ghost use mathlib.Core.Path.{_≡_};
 ghost use mathlib.Core.List.{[], _∷_};
-ghost use Prim.Native.Nat.{_+_, _/_, _≤_};
+ghost use Prim.Native.Nat.{_/_};
 ghost use lib.Dec.{ltb};
-ghost use lib.ListN.{length, take, drop};
+ghost use lib.ListN.{length};
 ghost use Rattle.row.specs.Field.{fieldAt};
 ghost use Rattle.row.specs.Row.{placeOf, pour, pourAt};
-ghost use Rattle.row.specs.steps.Copying.{rowCopied, copied};
 
 pub struct Row {
     pub kind: usize,
@@ -75,37 +74,4 @@ pub fn field_at(t: &[u8], at: usize, width: usize) -> usize
         return 0;
     }
     field::get(t, at, width)
-}
-
-// The row whose bytes start at `from` in one table, as row n of another, where it fits.
-fn copy_row(rows: &[u8], from: usize, t: &mut [u8], n: usize)
-    requires { ⌜ from + 32 ≤ length (now rows) ⌝ }
-    ensures { λ _. ⌜ now (t .exit) ≡ rowCopied (take 32 (drop from (now (rows .entry)))) n (now (t .entry)) ⌝ }
-{
-    if n < t.len() / WIDTH {
-        let to = n * WIDTH;
-        let mut i = 0;
-        while i < WIDTH {
-            t[to + i] = rows[from + i];
-            i += 1;
-        }
-    }
-}
-
-// The first n rows of a table, as the rows from k on of another, where they fit.
-pub fn copy_rows(rows: &[u8], n: usize, t: &mut [u8], k: usize)
-    ensures { λ _. ⌜ now (t .exit) ≡ copied (now (rows .entry)) n k (now (t .entry)) ⌝ }
-{
-    if t.len() < k {
-        return;
-    }
-    let mut i = 0;
-    while i < n {
-        if i < rows.len() / WIDTH {
-            copy_row(rows, i * WIDTH, t, k + i);
-        } else {
-            return;
-        }
-        i += 1;
-    }
 }

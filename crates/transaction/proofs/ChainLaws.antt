@@ -17,7 +17,7 @@ use Rattle.row.specs.steps.Writing.{Did}
 use Rattle.row.specs.declared.writer.Out.{Out}
 use Rattle.row.specs.declared.writer.Ran.{Ran}
 use Rattle.row.proofs.OutLaws.{rows-outs}
-use Rattle.row.proofs.SureLaws.{Sure, firm-sure, sure-must, sure-maybe, sure-many, sure-and}
+use Rattle.row.proofs.SureLaws.{Sure, sure-must, sure-maybe, sure-many, sure-and}
 use Rattle.row.proofs.DidLaws.{was-read, and-read, and-miss, and-hard}
 use Rattle.row.proofs.TokenLaws.{must-token-read, must-token-miss}
 use Rattle.posting.specs.Metadata.{metaStep, metadata}
@@ -52,7 +52,7 @@ module _ (s : List ℕ) (at : ℕ) (x : Read) (p : x ≡ lineEndAt s at) (f : �
   pub line-rows : (k : ℕ) → k ≤ at → k ≤ f
   line-rows k l = omega (arith, line-ends)
 
-pub ruleset chain = (part-within, part-rows, and-read, and-miss, and-hard, firm-sure)
+pub ruleset chain = (part-within, part-rows, and-read, and-miss, and-hard)
 
 -- ---- the parts, which do not miss but for the opening
 

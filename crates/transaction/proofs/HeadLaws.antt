@@ -25,7 +25,7 @@ use Rattle.row.specs.Details.{laid}
 use Rattle.row.specs.steps.Writing.{noted, Did}
 use Rattle.row.specs.declared.writer.Out.{Out}
 use Rattle.row.specs.declared.writer.Ran.{Ran}
-use Rattle.row.proofs.OutLaws.{rows-noted, wrote-none, wrote-one, wrote-then}
+use Rattle.row.proofs.OutLaws.{rows-noted, wrote-none, wrote-one, wrote-then, poured-none}
 use Rattle.row.proofs.SureLaws.{Sure, sure-to, sure-else}
 use Rattle.row.proofs.DidLaws.{did-read, did-none, maybe-sure}
 use Rattle.posting.specs.Postings.{isFlag, flag}
@@ -64,7 +64,7 @@ pub ruleset txn-laws = (txn-read, txn-miss)
 token-did : (base : ℕ) (o : Out) (t : List ℕ) (x : Read) → Did base (token x) o t t (bareRan x o)
 unfolding token bareRan
 token-did base o t (Read.To e) = did-none base o t e
-token-did base o t Read.Miss = (refl, refl)
+token-did base o t Read.Miss = (refl, poured-none (o .rows) t)
 
 module _ (s : List ℕ) (at : ℕ) where
   flag-none : getD s at 0 ≡ 0 → flag s at ≡ Miss

@@ -1,6 +1,6 @@
 -- Forms of an entry, as the code reads them: its enums of a rule's answer, and what was done.
 use Prim.Native.Nat.{ℕ}
-use mathlib.Core.List.{List, map}
+use mathlib.Core.List.{List, [], map}
 use mathlib.Core.Path.{_≡_}
 use Rattle.text.specs.Bytes.{bytes}
 use Rattle.text.specs.Words.{wordAt}
@@ -10,9 +10,8 @@ use Rattle.amount.specs.Details.{Rows}
 use Rattle.amount.specs.Amounts.{hardGap, hardCurrency, priceOf}
 use Rattle.row.specs.declared.writer.Out.{Out}
 use Rattle.row.specs.declared.writer.Ran.{Ran}
-use Rattle.row.specs.Row.{pourAt}
 use Rattle.row.specs.Details.{laid}
-use Rattle.row.specs.steps.Writing.{outs}
+use Rattle.row.specs.steps.Writing.{outs, Poured}
 use Rattle.content.specs.Contents.{hardAccount, balanceOf, openOf, padOf, eventOf}
 use Rattle.entry.specs.Directive.{keyword}
 use Rattle.entry.specs.Forms.{Form, asEntry}
@@ -64,6 +63,6 @@ formedOf k d (Ran.Hard n p) = Formed.Hard n p
 -- what was done for a form: as Did of row
 abbrev pub DidForm : ℕ → Ans Form → Out → List ℕ → List ℕ → Formed → Type 0
 DidForm base (To e f) o t u r =
-    (r ≡ Formed.Read (f .kind) (f .date) e (outs o (f .details))) × (u ≡ pourAt (o .rows) (map (laid base) (f .details)) t)
-DidForm base Miss o t u r = (r ≡ Formed.Miss) × (u ≡ t)
+    (r ≡ Formed.Read (f .kind) (f .date) e (outs o (f .details))) × Poured (o .rows) (map (laid base) (f .details)) t u
+DidForm base Miss o t u r = (r ≡ Formed.Miss) × Poured (o .rows) [] t u
 DidForm base (Hard k p) o t u r = r ≡ Formed.Hard k p

@@ -2,7 +2,6 @@
 use Prim.Native.Nat.{ℕ, _+_, _-_}
 use mathlib.Core.Bool.{cond}
 use mathlib.Core.List.{List, [], _∷_, map}
-use mathlib.Core.Path.{_≡_}
 use lib.Dec.{eqb}
 use lib.IntN.{pos}
 use lib.ListN.{length}
@@ -11,6 +10,7 @@ use Rattle.row.specs.declared.table.Row.{Row}
 use Rattle.row.specs.declared.writer.Out.{Out}
 use Rattle.row.specs.Row.{rowOf, pour}
 use Rattle.row.specs.Details.{laid}
+use Rattle.row.specs.steps.Writing.{Poured}
 use Rattle.entry.specs.Forms.{Form, formOf}
 use Rattle.entry.specs.Entry.{Reads, got, refuse}
 use Rattle.entry.specs.declared.entry.Entry.{Entry}
@@ -37,7 +37,7 @@ formRows base (To n f) = ownRow base (f .kind) (f .date) n (length (f .details))
 formRows base Miss = []
 formRows base (Hard k p) = []
 
--- the table after an entry at base: its rows from the front, unless it is refused
+-- the table after an entry at base: its rows from the front, and maybe others behind them, unless it is refused
 abbrev pub EntryPoured : Reads → ℕ → List ℕ → List ℕ → List ℕ → Type 0
-EntryPoured (got n rs) base s t u = u ≡ pour (formRows base (formOf s)) t
+EntryPoured (got n rs) base s t u = Poured 0 (formRows base (formOf s)) t u
 EntryPoured (refuse k p) base s t u = Unit {0}

@@ -3,14 +3,11 @@ use Prim.Native.Nat.{ℕ, _+_}
 use mathlib.Core.Bool.{cond}
 use mathlib.Core.List.{List, [], _∷_}
 use lib.ListN.{getD}
-use Rattle.text.specs.Answer.{To, Miss, Hard, _then_, _and_, maybe}
+use Rattle.text.specs.Answer.{To, _then_, _and_, maybe}
 use Rattle.text.specs.Lines.{gapAt}
 use Rattle.text.specs.Leaves.{account, lineEnd}
 use Rattle.text.specs.declared.Read.{Read}
 use Rattle.amount.specs.Details.{Rows, named}
-use Rattle.row.specs.steps.Writing.{outs}
-use Rattle.row.specs.declared.writer.Out.{Out}
-use Rattle.row.specs.declared.writer.Ran.{Ran}
 use Rattle.posting.specs.Postings.{isFlag, postingFlag, units}
 use Rattle.posting.specs.steps.Lots.{optionalPrice, optionalCost}
 
@@ -31,9 +28,3 @@ holderOf f s a = account s a and λ e. To e (named 33 a e f 0 ∷ []) and λ e. 
 
 unfoldable pub flaggedOf : List ℕ → ℕ → Rows
 flaggedOf s at = postingFlag s at then λ a f. holderOf f s a
-
--- the code's answer where o was held
-unfoldable pub ranOf : Out → Rows → Ran
-ranOf o (To e ds) = Ran.To e (outs o ds)
-ranOf o Miss = Ran.Miss
-ranOf o (Hard k p) = Ran.Hard k p

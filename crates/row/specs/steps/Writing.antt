@@ -1,7 +1,7 @@
 -- What the row writer holds, and what a reader that writes has done.
 use Prim.Native.Nat.{ℕ, _+_}
 use mathlib.Core.Bool.{cond}
-use mathlib.Core.List.{List, [], _∷_, map}
+use mathlib.Core.List.{List, [], _∷_, _++_, map}
 use mathlib.Core.Path.{_≡_}
 use lib.Dec.{eqb}
 use Rattle.decimal.specs.declared.Value.{Value}
@@ -11,6 +11,7 @@ use Rattle.amount.specs.declared.detail.Detail.{Detail}
 use Rattle.amount.specs.Details.{Rows}
 use Rattle.row.specs.declared.writer.Out.{Out}
 use Rattle.row.specs.declared.writer.Ran.{Ran}
+use Rattle.row.specs.declared.table.Row.{Row}
 use Rattle.row.specs.Row.{pourAt}
 use Rattle.row.specs.Details.{laid, valuePlace}
 
@@ -34,14 +35,12 @@ unfoldable pub outs : Out → List Detail → Out
 outs o [] = o
 outs o (d ∷ ds) = outs (noted o d) ds
 
--- what was done for the answer a of a rule, where o was held and t was the table: u is the table now, r the code's answer. A miss writes nothing.
-abbrev pub Did : ℕ → Rows → Out → List ℕ → List ℕ → Ran → Type 0
-Did base (To e ds) o t u r = (r ≡ Ran.To e (outs o ds)) × (u ≡ pourAt (o .rows) (map (laid base) ds) t)
-Did base Miss o t u r = (r ≡ Ran.Miss) × (u ≡ t)
-Did base (Hard k p) o t u r = r ≡ Ran.Hard k p
+-- u is the table t after the rows were written from row n on, and maybe others behind them: of a reading that was dropped, or is to be covered
+abbrev pub Poured : ℕ → List Row → List ℕ → List ℕ → Type 0
+Poured n rs t u = (xs : List Row) × (u ≡ pourAt n (rs ++ xs) t)
 
--- the same into a table that is given up where the reader misses
-abbrev pub Tried : ℕ → Rows → Out → List ℕ → List ℕ → Ran → Type 0
-Tried base (To e ds) o t u r = (r ≡ Ran.To e (outs o ds)) × (u ≡ pourAt (o .rows) (map (laid base) ds) t)
-Tried base Miss o t u r = r ≡ Ran.Miss
-Tried base (Hard k p) o t u r = r ≡ Ran.Hard k p
+-- what was done for the answer a of a rule, where o was held and t was the table: u is the table now, r the code's answer
+abbrev pub Did : ℕ → Rows → Out → List ℕ → List ℕ → Ran → Type 0
+Did base (To e ds) o t u r = (r ≡ Ran.To e (outs o ds)) × Poured (o .rows) (map (laid base) ds) t u
+Did base Miss o t u r = (r ≡ Ran.Miss) × Poured (o .rows) [] t u
+Did base (Hard k p) o t u r = r ≡ Ran.Hard k p

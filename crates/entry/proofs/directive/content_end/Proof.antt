@@ -3,9 +3,6 @@ use borrow.Author.Needs.{needs}
 use Rattle.entry.proofs.directive.content_end.Statement.{statement}
 use Rattle.entry.proofs.directive.content_end.Tie as tie
 
-slice-aggregate-content-at : tie.Need-slice-aggregate-content-at
-slice-aggregate-content-at c = search (needs, content-laws)
-
 content-at-requires : tie.Need-content-at-requires
 content-at-requires c κs = search (needs, content-laws)
 
@@ -18,12 +15,9 @@ line-end-requires c κs = search (needs, content-laws)
 enum-known-l : tie.Need-enum-known-l
 enum-known-l c = search (needs, content-laws)
 
-content-at-requires-2 : tie.Need-content-at-requires-2
-content-at-requires-2 c κs = search (needs, content-laws)
-
 metadata-at-requires : tie.Need-metadata-at-requires
 metadata-at-requires c κs =
-    (search needs, search needs, content-within _ _ _ _ (c .before .before .before .before .before .before .l .given .1) (c .before .before .before .before .before .before .before .before .line-end .ensures) _ _ (c .before .before .before .before .before .before .before .before .before .before .c .given .1) (c .before .before .before .before .before .before .before .before .before .before .before .before .before .before .before .before .before .args .base) (c .before .before .before .before .before .before .before .before .before .before .before .before .before .before .before .before .before .args .kind) (c .before .before .before .before .before .before .before .before .before .before .before .before .before .before .before .before .before .args .at) (c .before .before .before .before .before .before .before .before .before .before .before .before .before .before .before .before .before .args .out) _ _ (c .before .before .before .before .before .before .before .before .before .before .before .before .before .content-at .ensures), content-room _ _ _ _ (c .before .before .before .before .before .before .l .given .1) (c .before .before .before .before .before .before .before .before .line-end .ensures) _ _ (c .before .before .before .before .before .before .before .before .before .before .c .given .1) (c .before .before .before .before .before .before .before .before .before .before .before .before .before .before .before .before .before .args .base) (c .before .before .before .before .before .before .before .before .before .before .before .before .before .before .before .before .before .args .kind) (c .before .before .before .before .before .before .before .before .before .before .before .before .before .before .before .before .before .args .at) (c .before .before .before .before .before .before .before .before .before .before .before .before .before .before .before .before .before .args .out) _ _ (c .before .before .before .before .before .before .before .before .before .before .before .before .before .content-at .ensures) (search needs))
+    (search needs, search needs, content-within _ _ _ _ (c .before .before .l .given .1) (c .before .before .before .before .line-end .ensures) _ _ (c .before .before .before .before .before .before .c .given .1) (c .before .before .before .before .before .before .before .before .before .before .before .before .before .before .args .base) (c .before .before .before .before .before .before .before .before .before .before .before .before .before .before .args .kind) (c .before .before .before .before .before .before .before .before .before .before .before .before .before .before .args .at) (c .before .before .before .before .before .before .before .before .before .before .before .before .before .before .args .out) _ _ (c .before .before .before .before .before .before .before .before .before .before .content-at .ensures), content-room _ _ _ _ (c .before .before .l .given .1) (c .before .before .before .before .line-end .ensures) _ _ (c .before .before .before .before .before .before .c .given .1) (c .before .before .before .before .before .before .before .before .before .before .before .before .before .before .args .base) (c .before .before .before .before .before .before .before .before .before .before .before .before .before .before .args .kind) (c .before .before .before .before .before .before .before .before .before .before .before .before .before .before .args .at) (c .before .before .before .before .before .before .before .before .before .before .before .before .before .before .args .out) _ _ (c .before .before .before .before .before .before .before .before .before .before .content-at .ensures) (search needs))
 
 enum-told : tie.Need-enum-told
 enum-told c = search (needs, content-laws)
@@ -40,11 +34,20 @@ same-length c = search (needs, content-laws)
 returns : tie.Need-returns
 returns c = search (needs, content-laws)
 
+same-length-2 : tie.Need-same-length-2
+same-length-2 c = search (needs, content-laws)
+
 returns-2 : tie.Need-returns-2
 returns-2 c = search (needs, content-laws)
 
+same-length-3 : tie.Need-same-length-3
+same-length-3 c = search (needs, content-laws)
+
 returns-3 : tie.Need-returns-3
 returns-3 c = search (needs, content-laws)
+
+same-length-4 : tie.Need-same-length-4
+same-length-4 c = search (needs, content-laws)
 
 returns-4 : tie.Need-returns-4
 returns-4 c = search (needs, content-laws)
@@ -53,18 +56,19 @@ pub content-end-spec : {M : Type 1} → statement M
 content-end-spec =
     tie.close
     (tie.spec
-    slice-aggregate-content-at
     content-at-requires
     enum-known-c
     line-end-requires
     enum-known-l
-    content-at-requires-2
     metadata-at-requires
     enum-told
     enum-told-2
     enum-known-c-2
     same-length
     returns
+    same-length-2
     returns-2
+    same-length-3
     returns-3
+    same-length-4
     returns-4)

@@ -9,6 +9,18 @@ refusal-requires c κs = search (needs, written-laws)
 returns : tie.Need-returns
 returns c = search (needs, written-laws)
 
+mul-end : tie.Need-mul-end
+mul-end c = search (needs, written-laws)
+
+sub-entries : tie.Need-sub-entries
+sub-entries c = search (needs, written-laws)
+
+part-entries-start : tie.Need-part-entries-start
+part-entries-start c = search (needs, written-laws)
+
+part-entries-end : tie.Need-part-entries-end
+part-entries-end c = search (needs, written-laws)
+
 entries-requires : tie.Need-entries-requires
 entries-requires c κs = search (needs, written-laws)
 
@@ -24,4 +36,14 @@ returns-2 c = search (needs, written-laws)
 pub written-spec : {M : Type 1} → statement M
 written-spec =
     tie.close
-    (tie.spec refusal-requires returns entries-requires set-lines-requires same-length returns-2)
+    (tie.spec
+    refusal-requires
+    returns
+    mul-end
+    sub-entries
+    part-entries-start
+    part-entries-end
+    entries-requires
+    set-lines-requires
+    same-length
+    returns-2)

@@ -3,15 +3,15 @@ use borrow.Author.Needs.{needs}
 use Rattle.posting.proofs.body.posting_at.Statement.{statement}
 use Rattle.posting.proofs.body.posting_at.Tie as tie
 
-posted-requires : tie.Need-posted-requires
-posted-requires c κs = search (needs, posting-laws)
+posting-line-requires : tie.Need-posting-line-requires
+posting-line-requires c κs = search (needs, posting-laws)
 
 enum-known-x : tie.Need-enum-known-x
 enum-known-x c = search (needs, posting-laws)
 
 metadata-at-requires : tie.Need-metadata-at-requires
 metadata-at-requires c κs =
-    posting-room (c .before .before .before .before .before .before .before .before .before .before .args .base) (c .before .before .before .before .before .before .before .before .before .before .args .s .now) (c .before .before .before .before .before .before .before .before .before .before .args .at) (c .before .before .before .before .before .before .before .before .before .before .args .out) (c .before .before .before .before .before .before .before .before .before .before .args .table .now) _ (c .before .before .before .before .before .before .posted .result) (c .before .before .before .before .before .before .posted .ensures) _ _ (c .before .before .x .given .1) (c .before .before .before .before .before .before .before .before .before .before .pre .0) (c .before .before .before .before .before .before .before .before .before .before .pre .1) (c .before .before .before .before .before .before .before .before .before .before .pre .2) (c .before .before .before .before .before .before .before .before .before .before .pre .3)
+    posting-room (c .before .before .before .before .before .before .before .before .before .before .args .base) (c .before .before .before .before .before .before .before .before .before .before .args .s .now) (c .before .before .before .before .before .before .before .before .before .before .args .at) (c .before .before .before .before .before .before .before .before .before .before .args .out) (c .before .before .before .before .before .before .before .before .before .before .args .table .now) _ (c .before .before .before .before .before .before .posting-line .result) (c .before .before .before .before .before .before .posting-line .ensures) _ _ (c .before .before .x .given .1) (c .before .before .before .before .before .before .before .before .before .before .pre .0) (c .before .before .before .before .before .before .before .before .before .before .pre .1) (c .before .before .before .before .before .before .before .before .before .before .pre .2) (c .before .before .before .before .before .before .before .before .before .before .pre .3)
 
 enum-told : tie.Need-enum-told
 enum-told c = search (needs, posting-laws)
@@ -41,7 +41,7 @@ pub posting-at-spec : {M : Type 1} → statement M
 posting-at-spec =
     tie.close
     (tie.spec
-    posted-requires
+    posting-line-requires
     enum-known-x
     metadata-at-requires
     enum-told

@@ -2,22 +2,25 @@ use Rattle.ledger.proofs.ScanLaws.{Reached}
 use Prim.Native.Nat.{_-_}
 use mathlib.Core.Path.{_≡_}
 use lib.ListN.{length}
-use Rattle.ledger.proofs.ScanLaws.{scan-laws, turn-count, turn-read}
+use Rattle.ledger.proofs.ScanLaws.{scan-laws, turn-count, turn-read, turn-spot}
 use borrow.Author.Needs.{needs}
-use Rattle.ledger.proofs.read.entries.Statement.{statement}
-use Rattle.ledger.proofs.read.entries.Tie as tie
+use Rattle.ledger.proofs.scan.entries.Statement.{statement}
+use Rattle.ledger.proofs.scan.entries.Tie as tie
 
 abbrev Inv-loop : tie.InvT-loop
-Inv-loop s table₀ at₀ n₀ table at n = Reached s table₀ at n table × (length table ≡ length table₀)
+Inv-loop s base table₀ at₀ n₀ table at n = Reached base s table₀ at n table × (length table ≡ length table₀)
 
 abbrev μ-loop : tie.MeasureT-loop
-μ-loop s table₀ at₀ n₀ table at n = length s - at
+μ-loop s base table₀ at₀ n₀ table at n = length s - at
 
 loop-holds : tie.Need-loop-holds Inv-loop μ-loop
 loop-holds c = search (needs, scan-laws)
 
 place-requires : tie.Need-place-requires Inv-loop μ-loop
 place-requires c κs = search (needs, scan-laws)
+
+add-place : tie.Need-add-place Inv-loop μ-loop
+add-place c = search (needs, scan-laws)
 
 sub-entry-at : tie.Need-sub-entry-at Inv-loop μ-loop
 sub-entry-at c = search (needs, scan-laws)
@@ -43,8 +46,9 @@ entry-at-requires c κs = search (needs, scan-laws)
 enum-known-e : tie.Need-enum-known-e Inv-loop μ-loop
 enum-known-e c = search (needs, scan-laws)
 
-add-t20 : tie.Need-add-t20 Inv-loop μ-loop
-add-t20 c = search (needs, scan-laws)
+add-t22 : tie.Need-add-t22 Inv-loop μ-loop
+add-t22 c =
+    turn-spot _ _ _ _ _ _ (c .before .before .before .before .before .before .before .before .before .before .loop .inv .0) (c .before .before .before .before .before .before .before .before .before .loop-test .taken) _ (c .before .before .before .before .before .entry-at .ensures .0) _ _ (c .before .e .given .1) (c .before .before .before .before .before .before .before .before .before .before .before .before .before .pre)
 
 same-length : tie.Need-same-length Inv-loop μ-loop
 same-length c = search (needs, scan-laws)
@@ -59,13 +63,15 @@ add-at : tie.Need-add-at Inv-loop μ-loop
 add-at c = search (needs, scan-laws)
 
 add-n : tie.Need-add-n Inv-loop μ-loop
-add-n c = turn-count _ _ _ _ _ (c .before .before .before .before .before .before .before .before .before .before .loop .inv .0) (c .before .before .before .before .before .before .before .before .before .loop-test .taken) _ (c .before .before .before .before .before .entry-at .ensures .0) _ _ (c .before .e2 .given .1) (c .before .before .before .before .before .before .before .before .before .before .before .before .before .pre)
+add-n c =
+    turn-count _ _ _ _ _ _ (c .before .before .before .before .before .before .before .before .before .before .loop .inv .0) (c .before .before .before .before .before .before .before .before .before .loop-test .taken) _ (c .before .before .before .before .before .entry-at .ensures .0) _ _ (c .before .e2 .given .1) (c .before .before .before .before .before .before .before .before .before .before .before .before .before .pre)
 
 loop-less : tie.Need-loop-less Inv-loop μ-loop
 loop-less c = search (needs, scan-laws)
 
 loop-again : tie.Need-loop-again Inv-loop μ-loop
-loop-again c = (turn-read _ _ _ _ _ (c .before .before .before .before .before .before .before .before .before .before .loop .inv .0) (c .before .before .before .before .before .before .before .before .before .loop-test .taken) _ (c .before .before .before .before .before .entry-at .ensures .0) _ _ (c .before .e2 .given .1) _ _ (c .before .before .before .before .before .before .before .before .place .ensures) (c .before .before .before .before .before .entry-at .ensures .1), search (needs, scan-laws))
+loop-again c =
+    (turn-read _ _ _ _ _ _ (c .before .before .before .before .before .before .before .before .before .before .loop .inv .0) (c .before .before .before .before .before .before .before .before .before .loop-test .taken) _ (c .before .before .before .before .before .entry-at .ensures .0) _ _ (c .before .e2 .given .1) _ _ (c .before .before .before .before .before .before .before .before .place .ensures) (c .before .before .before .before .before .entry-at .ensures .1), search (needs, scan-laws))
 
 same-length-2 : tie.Need-same-length-2 Inv-loop μ-loop
 same-length-2 c = search (needs, scan-laws)
@@ -81,6 +87,7 @@ entries-spec =
     μ-loop
     loop-holds
     place-requires
+    add-place
     sub-entry-at
     part-entry-at-start
     part-entry-at-end
@@ -89,7 +96,7 @@ entries-spec =
     part-entry-at-end-2
     entry-at-requires
     enum-known-e
-    add-t20
+    add-t22
     same-length
     returns
     enum-known-e-2
