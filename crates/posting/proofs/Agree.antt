@@ -153,12 +153,12 @@ module _ {n m : ℕ} {t : Bool} where
   pub assoc-agree : (a b : Rows) (g h k l : ℕ → Rows) → Agrees n m t (a and λ j. g j and k) (b and λ j. h j and l) → Agrees n m t ((a and g) and k) ((b and h) and l)
   assoc-agree a b g h k l p = rw (and-assoc a g k, and-assoc b h l) p
 
--- what follows a first that crosses, where it reads on
-on-torn : (N n m : ℕ) (t : Bool) (j : ℕ) (xs : List Detail) (b c : Rows) → n < j → torn n xs ≡ true → Reach N j c → Lost t b → (c ≡ Miss → b ≡ Miss) → Agrees n m t (more xs c) b
+-- what follows rows that cross
+pub torn-more : (N n m : ℕ) (t : Bool) (j : ℕ) (xs : List Detail) (b c : Rows) → n < j → torn n xs ≡ true → Reach N j c → Lost t b → (c ≡ Miss → b ≡ Miss) → Agrees n m t (more xs c) b
 unfolding more
-on-torn N n m t j xs b (To l ys) h e r o f = crosses l (xs ++ ys) (omega (arith, r .ends .0)) (torn-left n xs ys e) o
-on-torn N n m t j xs b Miss h e r o f = rw (f refl) misses
-on-torn N n m t j xs b (Hard k p) h e r o f = refuses k p
+torn-more N n m t j xs b (To l ys) h e r o f = crosses l (xs ++ ys) (omega (arith, r .ends .0)) (torn-left n xs ys e) o
+torn-more N n m t j xs b Miss h e r o f = rw (f refl) misses
+torn-more N n m t j xs b (Hard k p) h e r o f = refuses k p
 
 module _ (N : ℕ) {n m : ℕ} where
   -- the first may cross, and then misses on the cut text
@@ -170,7 +170,7 @@ module _ (N : ℕ) {n m : ℕ} where
   and-strict (reads j x l) r f u = more-agree x (f j l)
   and-strict {t} {g = g} {h = h} (crosses {b} j x l e o) r f u =
       let lost : (b and h) ≡ Miss = ap (λ z. z and h) o in
-      on-torn N n m t j x (b and h) (g j) l e (u j (r .ends .0) (r .ends .1)) (lost-miss t (b and h) lost) (λ _. lost)
+      torn-more N n m t j x (b and h) (g j) l e (u j (r .ends .0) (r .ends .1)) (lost-miss t (b and h) lost) (λ _. lost)
 
   -- or what follows never misses
   pub and-loose : {i k : ℕ} {a b : Rows} {g h : ℕ → Rows} → Agrees n k false a b → Reach N i a → ((j : ℕ) → i ≤ j → j < k → Agrees n m false (g j) (h j))
@@ -180,7 +180,7 @@ module _ (N : ℕ) {n m : ℕ} where
   and-loose (refuses k p) r f u v = refuses k p
   and-loose (reads j x l) r f u v = more-agree x (f j (r .ends .0) l)
   and-loose {g = g} {h = h} (crosses {b} j x l e o) r f u v =
-      on-torn N n m false j x (b and h) (g j) l e (u j (r .ends .0) (r .ends .1)) tt (λ q. never (g j) (v j) q)
+      torn-more N n m false j x (b and h) (g j) l e (u j (r .ends .0) (r .ends .1)) tt (λ q. never (g j) (v j) q)
     where
       never : (c : Rows) → Sure c → c ≡ Miss → (b and h) ≡ Miss
       never c sure-to q = absurd (let z : _≡_ {A = ℕ} 0 1 = cc in omega arith)

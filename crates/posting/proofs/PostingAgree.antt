@@ -9,14 +9,14 @@ use Rattle.text.specs.Bytes.{isCapital, isSpace, isDigit}
 use Rattle.text.specs.Run.{runTo}
 use Rattle.text.specs.Strings.{stringAt}
 use Rattle.text.specs.Currencies.{currencyAt}
-use Rattle.text.specs.Answer.{To, Miss, _then_, _and_, _else_}
-use Rattle.text.specs.Leaves.{token, string, currency}
+use Rattle.text.specs.Answer.{To, Miss, must, _then_, _and_, _else_}
+use Rattle.text.specs.Leaves.{token, string, currency, lineEnd}
 use Rattle.text.specs.declared.Read.{Read}
-use Rattle.text.proofs.InLine.{starts}
+use Rattle.text.proofs.InLine.{starts, start-bounds, line-end-misses}
 use Rattle.text.proofs.Steps.{byte-within, run-stops}
 use Rattle.text.proofs.Joins.{to-same, else-same, then-same, and-same}
 use Rattle.text.proofs.TokenEnds.{line-reach}
-use Rattle.text.proofs.TokenSame.{xs, ys, s, same-byte, gap-same, line-same, empty-same, currency-same, byte-same}
+use Rattle.text.proofs.TokenSame.{xs, ys, s, at-seam, same-byte, gap-same, line-same, empty-same, currency-same, byte-same}
 use Rattle.amount.specs.declared.detail.Detail.{Detail}
 use Rattle.amount.specs.Details.{named, valued}
 use Rattle.amount.specs.Literal.{inLiteral, literal, unsigned}
@@ -27,7 +27,7 @@ use Rattle.row.proofs.SureLaws.{Sure, sure-many}
 use Rattle.posting.specs.Metadata.{quoted, value, metaLine, metaStep, metadata}
 use Rattle.posting.specs.Postings.{posting, bodyStep, body}
 use Rattle.posting.proofs.PostingEnds.{value-reach, meta-step-reach, body-step-reach}
-use Rattle.posting.proofs.Agree.{Agrees, same-agree, and-agree, and-strict, else-agree, else-strict, many-agree}
+use Rattle.posting.proofs.Agree.{Agrees, refuses, same-agree, must-agree, and-agree, and-strict, else-agree, else-strict, many-agree}
 use Rattle.posting.proofs.StringAgree.{string-quotes, quoted-value}
 use Rattle.posting.proofs.PostingSame.{key-same, posting-line-same}
 
@@ -88,6 +88,12 @@ module _ (front t : List ℕ) (b : ℕ) (B : starts b ≡ true) where
 
   pub longer : M ≤ N
   longer = omega (arith, length-append X (ys front t b B))
+
+  -- a required line end, also at the cut, where it refuses on the longer text
+  pub line-agree : (at : ℕ) → at < suc M → Agrees M (suc M) false (must at (lineEnd S at)) (must at (lineEnd X at))
+  unfolding must lineEnd token
+  line-agree = at-seam front t b B (λ at. Agrees M (suc M) false (must at (lineEnd S at)) (must at (lineEnd X at)))
+      (λ at h. must-agree at (same-agree {t = false} (line-same front t b B at h))) (rw (line-end-misses X t b (start-bounds b B)) (refuses 4 M))
 
   -- ---- rule 16
 
