@@ -139,10 +139,10 @@ module _ (front t : List ℕ) (b : ℕ) (B : starts b ≡ true) where
 
 -- metadata and postings never miss
 
-pub metadata-sure : (s : List ℕ) (at : ℕ) → Sure (metadata s at)
+pub sure-metadata : (s : List ℕ) (at : ℕ) → Sure (metadata s at)
 unfolding metadata
-metadata-sure s at = sure-many (metaStep s) (suc (length s)) at
+sure-metadata s at = sure-many (metaStep s) (suc (length s)) at
 
-pub body-sure : (s : List ℕ) (at : ℕ) → Sure (body s at)
+pub sure-body : (s : List ℕ) (at : ℕ) → Sure (body s at)
 unfolding body
-body-sure s at = sure-many (bodyStep s) (suc (length s)) at
+sure-body s at = sure-many (bodyStep s) (suc (length s)) at
