@@ -1,4 +1,8 @@
 pub mod EntryEnds
+pub mod EntryAgree
+pub mod HeldLaws
+pub mod KindRange
+pub mod EntryCut
 pub mod EntryForms
 pub mod EntryFew
 pub mod EntryLines

@@ -1,4 +1,5 @@
 pub mod Directive
 pub mod Forms
 pub mod Entry
+pub mod Lost
 pub mod steps

@@ -1,5 +1,9 @@
 pub mod PostingEnds
 pub mod PostingFew
+pub mod Agree
+pub mod StringAgree
+pub mod PostingSame
+pub mod PostingAgree
 pub mod OneRows
 pub mod ManyLaws
 pub mod MetaLaws

@@ -1,4 +1,5 @@
 pub mod Field
 pub mod Row
 pub mod Details
+pub mod Strings
 pub mod steps

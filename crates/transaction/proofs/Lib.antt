@@ -1,5 +1,6 @@
 pub mod TransactionEnds
 pub mod TransactionFew
+pub mod TransactionAgree
 pub mod HeadLaws
 pub mod MarkLaws
 pub mod ChainLaws
