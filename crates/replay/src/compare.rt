@@ -5,8 +5,6 @@ use crate::call::Reply;
 use crate::case::Case;
 use access::span;
 ghost use mathlib.Core.Path.{_≡_};
-ghost use Prim.Native.Nat.{_+_, _≤_};
-ghost use lib.ListN.{length, take, drop};
 ghost use Rattle.access.specs.Tables.{same};
 ghost use Rattle.replay.specs.Verdicts.{alike, allAlike, textSame, verdict};
 
@@ -82,22 +80,4 @@ pub fn judged(
         Outcome::LeftOut => Verdict::LeftOut,
         Outcome::Unknown => Verdict::Unknown,
     }
-}
-
-// The same for a case whose two texts stand one after the other, in buffers that may be longer.
-pub fn body_judged(c: Case, must: Reply, texts: &[u8], lent: &mut [u8], after: &[u8]) -> Verdict
-    requires { ⌜ (c .first + c .second ≤ length (now texts)) × (c .lent ≤ length (now lent)) × (c .lent ≤ length (now after)) ⌝ }
-    ensures { λ r. ⌜ r ≡ verdict c must (take (c .first) (now (texts .entry))) (take (c .second) (drop (c .first) (now (texts .entry)))) (take (c .lent) (now (lent .entry))) (take (c .lent) (now (after .entry))) ⌝ }
-{
-    let n = c.first;
-    let e = n + c.second;
-    let t = c.lent;
-    judged(
-        c,
-        must,
-        &texts[..n],
-        &texts[n..e],
-        &mut lent[..t],
-        &after[..t],
-    )
 }

@@ -1,6 +1,6 @@
 // Replays a case file from standard input: makes each call, and compares the answer and every byte of the lent buffer.
-// A case whose header says more than 64 KiB, and one that the file ends in, are told and counted as differing. Reading ends there:
-// nothing says where the next case would start.
+// A case whose header says more than 64 KiB, and one inside which the file ends, has a line of its own and differs. Reading ends
+// there: nothing says where the next case would start.
 mod call;
 mod case;
 mod compare;
@@ -9,10 +9,13 @@ mod tally;
 
 use call::Reply;
 use case::Case;
+use compare::Verdict;
 use tally::Step;
 use tally::Tally;
 ghost use Prim.Native.Nat.{_+_, _≤_};
-ghost use lib.ListN.{length};
+ghost use mathlib.Core.Path.{_≡_};
+ghost use lib.ListN.{length, take, drop};
+ghost use Rattle.replay.specs.Verdicts.{verdict};
 
 // How many cases that differ have a line of their own.
 const SHOWN: u64 = 20;
@@ -36,6 +39,24 @@ fn body(texts: &mut [u8], lent: &mut [u8], after: &mut [u8], n: usize, t: usize)
     false
 }
 
+// The two texts stand one after the other, each part at the front of its buffer.
+fn judged(c: Case, must: Reply, texts: &[u8], lent: &mut [u8], after: &[u8]) -> Verdict
+    requires { ⌜ (c .first + c .second ≤ length (now texts)) × (c .lent ≤ length (now lent)) × (c .lent ≤ length (now after)) ⌝ }
+    ensures { λ r. ⌜ r ≡ verdict c must (take (c .first) (now (texts .entry))) (take (c .second) (drop (c .first) (now (texts .entry)))) (take (c .lent) (now (lent .entry))) (take (c .lent) (now (after .entry))) ⌝ }
+{
+    let n = c.first;
+    let e = n + c.second;
+    let t = c.lent;
+    compare::judged(
+        c,
+        must,
+        &texts[..n],
+        &texts[n..e],
+        &mut lent[..t],
+        &after[..t],
+    )
+}
+
 // The case behind its header.
 fn whole(
     number: u64,
@@ -49,7 +70,7 @@ fn whole(
     requires { ⌜ (c .first + c .second ≤ length (now texts)) × (c .lent ≤ length (now lent)) × (c .lent ≤ length (now after)) ⌝ }
 {
     if body(texts, lent, after, c.first + c.second, c.lent) {
-        let v = compare::body_judged(c, must, texts, lent, after);
+        let v = judged(c, must, texts, lent, after);
         return report::told(number, is_shown, c.call, v);
     }
     report::cut_off(number);

@@ -43,14 +43,14 @@ fn difference(number: u64, call: usize, a: Alike) {
     write_case(number);
     write(b", ");
     write_name(call);
-    write(b":");
+    write(b", differs in:");
     write_part(a.number, b" number");
     write_part(a.place, b" place");
     write_part(a.count, b" count");
     write_part(a.value, b" value");
     write_part(a.text, b" text");
     write_part(a.buffer, b" buffer");
-    write(b" differ\n");
+    write(b"\n");
 }
 
 fn unknown(number: u64, call: usize) {

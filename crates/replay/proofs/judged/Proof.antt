@@ -1,7 +1,7 @@
 use Rattle.replay.proofs.BodyLaws.{body-laws}
 use borrow.Author.Needs.{needs}
-use Rattle.replay.proofs.compare.body_judged.Statement.{statement}
-use Rattle.replay.proofs.compare.body_judged.Tie as tie
+use Rattle.replay.proofs.judged.Statement.{statement}
+use Rattle.replay.proofs.judged.Tie as tie
 
 add-e : tie.Need-add-e
 add-e c = search (needs, body-laws)
@@ -36,8 +36,8 @@ same-length c = search (needs, body-laws)
 returns : tie.Need-returns
 returns c = search (needs, body-laws)
 
-pub body-judged-spec : {M : Type 1} → statement M
-body-judged-spec =
+pub judged-spec : {M : Type 1} → statement M
+judged-spec =
     tie.close
     (tie.spec
     add-e
