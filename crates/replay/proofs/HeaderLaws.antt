@@ -1,0 +1,39 @@
+-- The header's numbers, and its limit.
+use Prim.Native.Nat.{ℕ, _+_, _<_}
+use native.Mathlib.Omega.{arith}
+use mathlib.Core.Path.{_≡_, sym}
+use mathlib.Core.Bool.{false}
+use mathlib.Core.List.{List}
+use borrow.Author.Tests.{lt-leb}
+use lib.Dec.{leb}
+use Rattle.row.specs.Field.{fieldAt}
+use Rattle.replay.specs.Cases.{caseOf, mustOf}
+
+module _ (h : List ℕ) where
+  pub case-read : {k a b n m t : ℕ}
+      → k ≡ fieldAt h 0 4 → a ≡ fieldAt h 4 4 → b ≡ fieldAt h 8 4
+      → n ≡ fieldAt h 20 4 → m ≡ fieldAt h 24 4 → t ≡ fieldAt h 28 4
+      → record { call = k; a = a; b = b; first = n; second = m; lent = t } ≡ caseOf h
+  unfolding caseOf
+  case-read ek ea eb en em et = rw (ek, ea, eb, en, em, et)
+
+  pub must-read : {n p c v : ℕ}
+      → n ≡ fieldAt h 32 4 → p ≡ fieldAt h 36 4 → c ≡ fieldAt h 40 4 → v ≡ fieldAt h 48 8
+      → record { number = n; place = p; count = c; value = v } ≡ mustOf h
+  unfolding mustOf
+  must-read en ep ec ev = rw (en, ep, ec, ev)
+
+pub ruleset header-laws = (case-read, must-read)
+
+-- one part over the limit is too much
+module _ (n m t : ℕ) where
+  pub first-over : 65536 < n → false ≡ leb (56 + n + m + t + t) 65536
+  first-over h = sym (lt-leb (56 + n + m + t + t) 65536 (omega arith))
+
+  pub second-over : 65536 < m → false ≡ leb (56 + n + m + t + t) 65536
+  second-over h = sym (lt-leb (56 + n + m + t + t) 65536 (omega arith))
+
+  pub lent-over : 65536 < t → false ≡ leb (56 + n + m + t + t) 65536
+  lent-over h = sym (lt-leb (56 + n + m + t + t) 65536 (omega arith))
+
+pub ruleset limit-laws = (first-over, second-over, lent-over)

@@ -1,0 +1,5 @@
+pub mod HeaderLaws
+pub mod BodyLaws
+pub mod ReplyLaws
+pub mod VerdictLaws
+pub mod StepLaws

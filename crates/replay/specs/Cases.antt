@@ -1,0 +1,30 @@
+-- A case: a header of 56 bytes, the first text (ledger, expression or content), the second (6: the tag; 5: the text that is expected), the
+-- lent buffer before the call (1: row table; 4: output; 6: the row table that is read) and as it must be after it. The header has numbers
+-- of four bytes: the call, a, b, two that no call takes, the bytes of the first text, of the second and of the buffer, then what must be
+-- answered: number (0: accepted), place, count and one that is 0; last the value, of eight bytes.
+-- Calls: 1 plain reading, 2 recovering reading, 3 single expression, 4 string content, 5 text of a span from a to b, 6 tag in force after a rows.
+use mathlib.Core.List.{List}
+use Prim.Native.Nat.{ℕ}
+use Rattle.row.specs.Field.{fieldAt}
+use Rattle.replay.specs.declared.case.Case.{Case}
+use Rattle.replay.specs.declared.call.Reply.{Reply}
+
+unfoldable pub caseOf : List ℕ → Case
+caseOf h =
+    record {
+      call = fieldAt h 0 4;
+      a = fieldAt h 4 4;
+      b = fieldAt h 8 4;
+      first = fieldAt h 20 4;
+      second = fieldAt h 24 4;
+      lent = fieldAt h 28 4;
+    }
+
+unfoldable pub mustOf : List ℕ → Reply
+mustOf h =
+    record {
+      number = fieldAt h 32 4;
+      place = fieldAt h 36 4;
+      count = fieldAt h 40 4;
+      value = fieldAt h 48 8;
+    }

@@ -1,0 +1,4 @@
+pub mod Cases
+pub mod Replies
+pub mod Verdicts
+pub mod Counts
