@@ -7,6 +7,7 @@ pub mod PostingAgree
 pub mod OneRows
 pub mod ManyLaws
 pub mod MetaLaws
+pub mod OtherLines
 pub mod MetaWrites
 pub mod LotLaws
 pub mod LotWrites

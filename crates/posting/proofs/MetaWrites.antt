@@ -26,6 +26,7 @@ use Rattle.posting.proofs.PostingEnds.{meta-step-reach}
 use Rattle.posting.proofs.PostingFew.{meta-step-fits}
 use Rattle.posting.proofs.OneRows.{one-read, one-miss, one-hard, token-miss}
 use Rattle.posting.proofs.MetaLaws.{meta-row}
+use Rattle.posting.proofs.OtherLines.{step-other}
 use Rattle.posting.proofs.ManyLaws.{Stepping, Runs, runs-start, runs-laws}
 
 -- ---- a line: x is the answer of the metadata line, l that of the empty line
@@ -71,6 +72,6 @@ module _ (s : List ℕ) where
   unfolding metadata
   meta-start base at o t = runs-start base (length s) (metaStep s) at o t
 
-pub ruleset step-laws = (step-read, step-empty, step-miss, step-hard)
+pub ruleset step-laws = (step-other, step-read, step-empty, step-miss, step-hard)
 
 pub ruleset metadata-laws = (meta-stepping, meta-start, runs-laws)

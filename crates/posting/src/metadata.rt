@@ -16,7 +16,9 @@ use text::run::Class;
 use text::string;
 ghost use mathlib.Core.Path.{_≡_};
 ghost use Prim.Native.Nat.{_≤_};
-ghost use lib.ListN.{length};
+ghost use lib.ListN.{length, getD};
+ghost use Rattle.text.specs.Bytes.{startsPart};
+ghost use Rattle.text.specs.Run.{blanks};
 ghost use Rattle.amount.specs.steps.Answers.{oneOf};
 ghost use Rattle.row.specs.steps.Writing.{Did};
 ghost use Rattle.posting.specs.Metadata.{keyAt, value, metaLine, metaStep, metadata};
@@ -139,11 +141,21 @@ fn meta_line(s: &[u8], at: usize) -> One
     }
 }
 
-// A metadata line, else an empty or comment line.
+// Whether a posting or an entry starts, after blanks: a capital or a digit starts no key and ends no line.
+fn starts_other(s: &[u8], at: usize) -> bool
+    ensures { λ r. ⌜ r ≡ startsPart (getD (now (s .entry)) (blanks (now (s .entry)) at) 0) ⌝ }
+{
+    bytes::starts_part(bytes::peek(s, run::run(s, at, Class::Blank)))
+}
+
+// A metadata line, else an empty or comment line. Most lines are neither, which one byte tells.
 fn meta_step(s: &[u8], at: usize, base: usize, table: &mut [u8], out: Out) -> Ran
     requires { ⌜ (base ≤ 16777216) × (out .rows ≤ 33554432) ⌝ }
     ensures { λ r. ⌜ Did base (metaStep (now (s .entry)) at) out (now (table .entry)) (now (table .exit)) r ⌝ }
 {
+    if starts_other(s, at) {
+        return Ran::Miss;
+    }
     let x = meta_line(s, at);
     match x {
         One::Read(e, d) => {

@@ -3,6 +3,12 @@ use borrow.Author.Needs.{needs}
 use Rattle.posting.proofs.metadata.meta_step.Statement.{statement}
 use Rattle.posting.proofs.metadata.meta_step.Tie as tie
 
+starts-other-requires : tie.Need-starts-other-requires
+starts-other-requires c κs = search (needs, step-laws)
+
+returns : tie.Need-returns
+returns c = search (needs, step-laws)
+
 meta-line-requires : tie.Need-meta-line-requires
 meta-line-requires c κs = search (needs, step-laws)
 
@@ -30,9 +36,6 @@ enum-known-x-2 c = search (needs, step-laws)
 same-length : tie.Need-same-length
 same-length c = search (needs, step-laws)
 
-returns : tie.Need-returns
-returns c = search (needs, step-laws)
-
 returns-2 : tie.Need-returns-2
 returns-2 c = search (needs, step-laws)
 
@@ -42,10 +45,15 @@ returns-3 c = search (needs, step-laws)
 returns-4 : tie.Need-returns-4
 returns-4 c = search (needs, step-laws)
 
+returns-5 : tie.Need-returns-5
+returns-5 c = search (needs, step-laws)
+
 pub meta-step-spec : {M : Type 1} → statement M
 meta-step-spec =
     tie.close
     (tie.spec
+    starts-other-requires
+    returns
     meta-line-requires
     enum-known-x
     emit-requires
@@ -55,7 +63,7 @@ meta-step-spec =
     enum-told-2
     enum-known-x-2
     same-length
-    returns
     returns-2
     returns-3
-    returns-4)
+    returns-4
+    returns-5)
