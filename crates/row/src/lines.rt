@@ -51,10 +51,10 @@ pub fn set_lines(s: &[u8], table: &mut [u8], n: usize)
         if table.len() - i < WIDTH {
             return;
         }
-        let start = field::get(table, i + 4, 4);
+        let start = field::get_four(table, i + 4);
         line = counted(s, at, line, start);
         at = start;
-        field::put(table, i + 12, 4, 1 + line);
+        field::put_four(table, i + 12, 1 + line);
         i += WIDTH;
         left -= 1;
     }

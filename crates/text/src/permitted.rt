@@ -37,7 +37,7 @@ fn is_plain(b: u8) -> bool
     ((b' ' <= b) & (b <= b'~')) | (b == b'\n') | (b == b'\t')
 }
 
-// Whether a chunk holds plain bytes alone. It is looked at whole, without a way out, so that the machine tests many bytes at a time.
+// Whether a chunk holds plain bytes alone. The loop has no way out, so that the compiler tests many bytes at a time.
 fn plain_chunk(s: &[u8], at: usize) -> bool
     requires { ⌜ at + 64 ≤ length (now s) ⌝ }
     ensures { λ r. ⌜ r ≡ allPlain (take 64 (drop at (now (s .entry)))) ⌝ }

@@ -28,23 +28,23 @@ same-length c = search (needs, sweeping)
 returns : tie.Need-returns Inv-loop μ-loop
 returns c = search (needs, sweeping)
 
-add-get : tie.Need-add-get Inv-loop μ-loop
-add-get c = search (needs, sweeping)
+add-get-four : tie.Need-add-get-four Inv-loop μ-loop
+add-get-four c = search (needs, sweeping)
 
-get-requires : tie.Need-get-requires Inv-loop μ-loop
-get-requires c κs = search (needs, sweeping)
+get-four-requires : tie.Need-get-four-requires Inv-loop μ-loop
+get-four-requires c κs = search (needs, sweeping)
 
 counted-requires : tie.Need-counted-requires Inv-loop μ-loop
 counted-requires c κs = search (needs, sweeping)
 
-add-put : tie.Need-add-put Inv-loop μ-loop
-add-put c = search (needs, sweeping)
+add-put-four : tie.Need-add-put-four Inv-loop μ-loop
+add-put-four c = search (needs, sweeping)
 
-add-put-2 : tie.Need-add-put-2 Inv-loop μ-loop
-add-put-2 c = search (needs, sweeping)
+add-put-four-2 : tie.Need-add-put-four-2 Inv-loop μ-loop
+add-put-four-2 c = search (needs, sweeping)
 
-put-requires : tie.Need-put-requires Inv-loop μ-loop
-put-requires c κs = search (needs, sweeping)
+put-four-requires : tie.Need-put-four-requires Inv-loop μ-loop
+put-four-requires c κs = search (needs, sweeping)
 
 add-i : tie.Need-add-i Inv-loop μ-loop
 add-i c = search (needs, sweeping)
@@ -74,12 +74,12 @@ set-lines-spec =
     sub-if1
     same-length
     returns
-    add-get
-    get-requires
+    add-get-four
+    get-four-requires
     counted-requires
-    add-put
-    add-put-2
-    put-requires
+    add-put-four
+    add-put-four-2
+    put-four-requires
     add-i
     sub-left
     loop-less
