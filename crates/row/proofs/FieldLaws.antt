@@ -1,9 +1,9 @@
 -- Laws of little-endian fields, over the width.
 use mathlib.Core.Path.{_≡_, refl, sym, ap, _∙_}
-use mathlib.Core.List.{List, [], _∷_}
+use mathlib.Core.List.{List, [], _∷_, _++_}
 use Prim.Native.Nat.{ℕ, zero, suc, _+_, _-_, _*_, _/_, _%_, _^_, _<_, _≤_}
-use native.Mathlib.Nat.{pow-suc, one-le-pow, pow-le-pow-right, mod-one, sub-self}
-use native.Mathlib.Numerals.{add-one, sub-one}
+use native.Mathlib.Nat.{zero-add, add-zero, add-suc, suc-add, pow-suc, pow-succ', one-le-pow, pow-le-pow-right, mod-one, div-one, sub-self, div-div-eq-div-mul}
+use native.Mathlib.Numerals.{add-one}
 use native.Mathlib.Omega.{arith}
 use lib.Arith.{mod-mul, digits-div, digits-mod}
 use lib.Dec.{lit<}
@@ -18,16 +18,37 @@ length-le zero x = refl
 length-le (suc k) x = ap suc (length-le k (x / 256))
 
 -- one byte is stored, and what is left of the number behind it
-pub put-byte : (t : List ℕ) (i left y : ℕ) {u : List ℕ} → 0 < left → sets t i (le left y) ≡ u
-    → sets (set t i (y % 256)) (i + 1) (le (left - 1) (y / 256)) ≡ u
-put-byte t i zero y h e = absurd (omega arith)
-put-byte t i (suc k) y h e = rw (add-one, sub-one) e
+put-byte : (t : List ℕ) (i k x : ℕ) {j y : ℕ} → j ≡ i + 1 → y ≡ x / 256 → sets (set t i (x % 256)) j (le k y) ≡ sets t i (le (suc k) x)
+put-byte t i k x ej ey = rw (ej, ey, add-one)
 
-pub put-end : (t : List ℕ) (i left y : ℕ) {u : List ℕ} → left ≤ 0 → sets t i (le left y) ≡ u → t ≡ u
-put-end t i zero y h e = e
-put-end t i (suc k) y h e = absurd (omega arith)
+-- a number of four bytes, byte by byte; a, b, c, d are what the code works out for each
+pub put-bytes : (t : List ℕ) (at x : ℕ) {a b c d : ℕ} → a ≡ x % 256 → b ≡ x / 256 % 256 → c ≡ x / 65536 % 256 → d ≡ x / 16777216 % 256
+    → set (set (set (set t at a) (at + 1) b) (at + 2) c) (at + 3) d ≡ sets t at (le 4 x)
+put-bytes t at x ea eb ec ed =
+    let t1 = set t at (x % 256) in
+    let t2 = set t1 (at + 1) (x / 256 % 256) in
+    let t3 = set t2 (at + 2) (x / 65536 % 256) in
+    rw (ea, eb, ec, ed)
+    (put-byte t3 (at + 3) 0 (x / 16777216) refl refl
+    ∙ put-byte t2 (at + 2) 1 (x / 65536) (omega arith) (sym (div-div-eq-div-mul x 65536 256))
+    ∙ put-byte t1 (at + 1) 2 (x / 256) (omega arith) (sym (div-div-eq-div-mul x 256 256))
+    ∙ put-byte t at 3 x refl refl)
 
-pub ruleset putting = (put-byte, put-end)
+-- the bytes of a wider field are those of its low part, and those of the rest behind them
+le-add : (k j x : ℕ) → le (k + j) x ≡ le k x ++ le j (x / 256 ^ k)
+le-add zero j x = rw (zero-add j, div-one x)
+le-add (suc k) j x =
+    let e : x / 256 / 256 ^ k ≡ x / 256 ^ suc k = div-div-eq-div-mul x 256 (256 ^ k) ∙ ap (λ (n : ℕ). x / n) (sym (pow-succ' 256 k)) in
+    rw (suc-add, le-add k j (x / 256), e)
+
+sets-append : (vs ws t : List ℕ) (i : ℕ) → sets t i (vs ++ ws) ≡ sets (sets t i vs) (i + length vs) ws
+sets-append [] ws t i = rw add-zero
+sets-append (v ∷ vs) ws t i = rw (add-suc, sets-append vs ws (set t i v) (suc i), suc-add)
+
+-- so a field may be stored in two parts
+pub put-parts : (t : List ℕ) (at k j x : ℕ) {u v : List ℕ} → u ≡ sets t at (le k x) → v ≡ sets u (at + k) (le j (x / 256 ^ k))
+    → v ≡ sets t at (le (k + j) x)
+put-parts t at k j x eu ev = rw (ev, eu, le-add k j x, sets-append (le k x) (le j (x / 256 ^ k)) t at, length-le)
 
 un-lt : (bs : List ℕ) → ((i : ℕ) → getD bs i 0 < 256) → (k : ℕ) → un (take k bs) < 256 ^ k
 un-lt bs h zero = omega arith
@@ -46,6 +67,10 @@ get-cast t i h = omega (arith, h i)
 pub get-none : (t : List ℕ) (at width : ℕ) → 0 ≡ un (take (width - width) (drop (at + width) t))
 get-none t at width = rw sub-self
 
+-- a byte below the number of those behind it
+un-byte : (t : List ℕ) (i k : ℕ) {j : ℕ} → j ≡ i + 1 → i < length t → un (take (suc k) (drop i t)) ≡ un (take k (drop j t)) * 256 + getD t i 0
+un-byte t i k e h = rw (e, add-one, drop-cons t i 0 h)
+
 -- the bytes from `left` on were read, and x is their number
 module _ (t : List ℕ) (at width left x : ℕ) (e : x ≡ un (take (width - left) (drop (at + left) t))) where
   -- the byte before them comes below them
@@ -53,9 +78,7 @@ module _ (t : List ℕ) (at width left x : ℕ) (e : x ≡ un (take (width - lef
       → x * 256 + getD t (at + (left - 1)) 0 ≡ un (take (width - (left - 1)) (drop (at + (left - 1)) t))
   get-byte h l r =
       let a : width - (left - 1) ≡ suc (width - left) = omega arith in
-      let b : at + left ≡ suc (at + (left - 1)) = omega arith in
-      let g : at + (left - 1) < length t = omega arith in
-      rw (e, a, b, drop-cons t (at + (left - 1)) 0 g)
+      rw (e, a, un-byte t (at + (left - 1)) (width - left) {j = at + left} (omega arith) (omega arith))
 
   pub get-end : left ≤ 0 → x ≡ un (take width (drop at t))
   get-end h =
@@ -72,6 +95,19 @@ module _ (t : List ℕ) (at width left x : ℕ) (e : x ≡ un (take (width - lef
 
     pub get-more : Fits w64 (x * 256 + getD t (at + (left - 1)) 0)
     get-more = omega (arith, below, h (at + (left - 1)))
+
+-- a number of four bytes, byte by byte
+pub get-bytes : (t : List ℕ) (at : ℕ) {a b c d : ℕ} → at + 4 ≤ length t
+    → a ≡ getD t at 0 → b ≡ getD t (at + 1) 0 → c ≡ getD t (at + 2) 0 → d ≡ getD t (at + 3) 0
+    → a + 256 * (b + 256 * (c + 256 * d)) ≡ un (take 4 (drop at t))
+get-bytes t at h ea eb ec ed =
+    omega (
+      arith,
+      un-byte t at 3 {j = at + 1} refl (omega arith),
+      un-byte t (at + 1) 2 {j = at + 2} (omega arith) (omega arith),
+      un-byte t (at + 2) 1 {j = at + 3} (omega arith) (omega arith),
+      un-byte t (at + 3) 0 {j = at + 4} (omega arith) (omega arith),
+    )
 
 pub ruleset getting = (get-cast, get-none, get-byte, get-end, get-wide, get-more)
 

@@ -11,7 +11,8 @@ use lib.ListN.{length, take, drop, take-append-drop, length-append, length-take,
 use lib.Seq.{take-append-le, drop-append-le, take-at, drop-at, take-append-add, drop-append-add, sets, sets-eq}
 use Rattle.row.specs.Field.{le, un}
 use Rattle.row.specs.Row.{rowBytes, rowsBytes, pour, feeds, lined}
-use Rattle.row.specs.steps.Sweep.{lineSet, linesSet}
+use Rattle.row.specs.steps.Sweep.{LineOf, lineSet, linesSet}
+use Rattle.row.specs.declared.lines.Line.{Line}
 use Rattle.row.specs.declared.table.Row.{Row}
 use Rattle.row.proofs.FieldLaws.{un-le}
 use Rattle.row.proofs.PourLaws.{le-or-lt, length-rowBytes, pour-none, pour-short, pour-fits}
@@ -74,18 +75,18 @@ stored-behind s x z r e =
     )
 
 -- the same of a table t whose row i is z
-stored-at : (s t x z r : List ℕ) (i start line : ℕ) {u : List ℕ} → x ++ (z ++ r) ≡ t → length x ≡ i → length z ≡ 32
-    → start ≡ un (take 4 (drop (i + 4) t)) → line ≡ feeds (take start s) → u ≡ sets t (i + 12) (le 4 (1 + line)) → u ≡ (x ++ lineSet s z) ++ r
-stored-at s t x z r i start line et ex ez es el eu = rw (eu, el, es, ← et, ← ex) (stored-behind s x z r ez)
+stored-at : (s t x z r : List ℕ) (i start number : ℕ) {u : List ℕ} → x ++ (z ++ r) ≡ t → length x ≡ i → length z ≡ 32
+    → start ≡ un (take 4 (drop (i + 4) t)) → number ≡ 1 + feeds (take start s) → u ≡ sets t (i + 12) (le 4 number) → u ≡ (x ++ lineSet s z) ++ r
+stored-at s t x z r i start number et ex ez es el eu = rw (eu, el, es, ← et, ← ex) (stored-behind s x z r ez)
 
 -- row i was reached: what is left to sweep leads to w
 module _ (s t : List ℕ) (i : ℕ) {w : List ℕ} where
-  pub sweep-row : (left start line : ℕ) {u : List ℕ} → take i t ++ linesSet s left (drop i t) ≡ w
-      → 0 < left → i ≤ length t → 32 ≤ length t - i → start ≡ un (take 4 (drop (i + 4) t)) → line ≡ feeds (take start s)
-      → u ≡ sets t (i + 12) (le 4 (1 + line))
+  pub sweep-row : (left start number : ℕ) {u : List ℕ} → take i t ++ linesSet s left (drop i t) ≡ w
+      → 0 < left → i ≤ length t → 32 ≤ length t - i → start ≡ un (take 4 (drop (i + 4) t)) → number ≡ 1 + feeds (take start s)
+      → u ≡ sets t (i + 12) (le 4 number)
       → take (i + 32) u ++ linesSet s (left - 1) (drop (i + 32) u) ≡ w
-  sweep-row zero start line e h l k es el eu = absurd (omega arith)
-  sweep-row (suc n) start line {u} e h l k es el eu =
+  sweep-row zero start number e h l k es el eu = absurd (omega arith)
+  sweep-row (suc n) start number {u} e h l k es el eu =
       let x = take i t in
       let z = take 32 (drop i t) in
       let r = drop 32 (drop i t) in
@@ -96,7 +97,7 @@ module _ (s t : List ℕ) (i : ℕ) {w : List ℕ} where
       let ey : length (x ++ lineSet s z) ≡ i + 32 = rw (length-append, length-lineSet s z ez) (omega arith) in
       rw (
         sub-one,
-        stored-at s t x z r i start line et ex ez es el eu,
+        stored-at s t x z r i start number et ex ez es el eu,
         take-at (x ++ lineSet s z) r (i + 32) ey,
         drop-at (x ++ lineSet s z) r (i + 32) ey,
         append-assoc,
@@ -113,12 +114,20 @@ module _ (s t : List ℕ) (i : ℕ) {w : List ℕ} where
   sweep-end zero e h = rw take-append-drop at e
   sweep-end (suc n) e h = absurd (omega arith)
 
--- nothing is swept yet
-pub sweep-start : (s : List ℕ) → 0 ≡ feeds (take 0 s)
+-- the line from which the code goes on, l, is the one that it kept or, for a start before that, the first
+module _ (s : List ℕ) (start : ℕ) {l m : Line} (e : l ≡ m) (h : LineOf s m) where
+  pub line-kept : m .from ≤ start → LineOf s l × (l .from ≤ start)
+  line-kept g = rw e (h, g)
+
+  pub line-anew : m .from ≡ 0 → LineOf s l × (l .from ≤ start)
+  line-anew g = line-kept (omega arith)
+
+-- the first line has number 1
+pub sweep-start : (s : List ℕ) → 1 ≡ 1 + feeds (take 0 s)
 unfolding feeds
 sweep-start s = refl
 
-pub ruleset sweeping = (sweep-row, sweep-short, sweep-end, sweep-start)
+pub ruleset sweeping = (sweep-short, sweep-end, sweep-start)
 
 -- ---- the lines that are set are the lines of the rows
 

@@ -43,13 +43,15 @@ pub fn put_front(t: &mut [u8], r: Row)
     if t.len() < WIDTH {
         return;
     }
-    field::put(t, 0, 4, r.kind);
-    field::put(t, 4, 4, r.start);
-    field::put(t, 8, 4, r.end);
-    field::put(t, 12, 4, r.line);
-    field::put(t, 16, 4, r.p);
-    field::put(t, 20, 4, r.q);
-    field::put(t, 24, 8, r.bits);
+    field::put_four(t, 0, r.kind);
+    field::put_four(t, 4, r.start);
+    field::put_four(t, 8, r.end);
+    field::put_four(t, 12, r.line);
+    field::put_four(t, 16, r.p);
+    field::put_four(t, 20, r.q);
+    let bits = r.bits;
+    field::put_four(t, 24, bits);
+    field::put_four(t, 28, bits / 4294967296);
 }
 
 // One row as row n: the rest of the table, from there, is lent on.

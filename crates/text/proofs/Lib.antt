@@ -10,6 +10,7 @@ pub mod CurrencyLaws
 pub mod AccountLaws
 pub mod StringLaws
 pub mod PermittedLaws
+pub mod PlainLaws
 pub mod Joins
 pub mod StringSame
 pub mod InLine

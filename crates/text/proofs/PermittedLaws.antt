@@ -1,12 +1,12 @@
 -- The answers at bytes that a ledger may hold, each from what the code knows where it gives it.
-use Prim.Native.Nat.{ℕ, _+_, _≤_, _<_}
+use Prim.Native.Nat.{ℕ, _+_, _≤_, _<_, min}
 use native.Mathlib.Omega.{arith}
 use mathlib.Core.Path.{_≡_, sym, _∙_}
 use mathlib.Core.Bool.{Bool, true, false}
 use mathlib.Core.List.{List}
 use borrow.Author.Tests.{ne-eqb, le-leb, lt-leb}
 use lib.Dec.{leb, eqb}
-use lib.ListN.{length, drop, getD, drop-of-length-le}
+use lib.ListN.{length, drop, getD}
 use Rattle.text.specs.Permitted.{permitted, clean}
 use Rattle.text.proofs.Steps.{drop-step, head-drop}
 
@@ -32,20 +32,17 @@ module _ (b n : ℕ) where
   unfolding permitted
   barred h e f g = rw (lt-leb 32 b h, ne-eqb _ _ f, ne-eqb _ _ e, ne-eqb _ _ g)
 
--- The loop over a text: the bytes before i may stand, and those that may in what is left make up the answer a; r is what the code's test gave.
-module _ (a : ℕ) (s : List ℕ) (i : ℕ) (v : i + clean (drop i s) ≡ a) where
-  pub clean-on : (r : Bool) → i < length s → r ≡ permitted (getD s i 0) (getD s (i + 1) 0) → r ≡ true → i + 1 + clean (drop (i + 1) s) ≡ a
+-- The loop over the bytes before `to`: those before i may stand, and those that may in what is left make up the answer a; r is what the
+-- code's test gave of the byte at i.
+module _ (a : ℕ) (s : List ℕ) (i to : ℕ) (v : i + clean (drop i s) ≡ a) (h : i < to) (l : to ≤ length s) where
+  pub clean-on : (r : Bool) → r ≡ permitted (getD s i 0) (getD s (i + 1) 0) → r ≡ true → i + 1 + clean (drop (i + 1) s) ≡ a
   unfolding clean
-  clean-on r h e t = omega (arith, rw (drop-step s i h, head-drop s (i + 1), sym e ∙ t) at v)
+  clean-on r e t = omega (arith, rw (drop-step s i (omega arith), head-drop s (i + 1), sym e ∙ t) at v)
 
-  pub clean-stop : (r : Bool) → i < length s → r ≡ permitted (getD s i 0) (getD s (i + 1) 0) → r ≡ false → i ≡ a
+  pub clean-stop : (r : Bool) → r ≡ permitted (getD s i 0) (getD s (i + 1) 0) → r ≡ false → i ≡ min a to
   unfolding clean
-  clean-stop r h e t = omega (arith, rw (drop-step s i h, head-drop s (i + 1), sym e ∙ t) at v)
-
-  pub clean-end : length s ≤ i → i ≡ a
-  unfolding clean
-  clean-end h = omega (arith, rw (drop-of-length-le s h) at v)
+  clean-stop r e t = omega (arith, rw (drop-step s i (omega arith), head-drop s (i + 1), sym e ∙ t) at v)
 
 pub ruleset stand-laws = (shown, feed, tab, return, barred)
 
-pub ruleset clean-laws = (clean-on, clean-stop, clean-end)
+pub ruleset clean-laws = (clean-on, clean-stop)

@@ -11,3 +11,4 @@ pub mod Tags
 pub mod Answer
 pub mod Leaves
 pub mod Examples
+pub mod steps

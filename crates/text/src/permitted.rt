@@ -1,14 +1,18 @@
 // The bytes that a ledger may hold (refusal 2).
 use crate::bytes;
 ghost use mathlib.Core.Path.{_≡_};
-ghost use Prim.Native.Nat.{_≤_};
-ghost use lib.ListN.{length, getD};
+ghost use Prim.Native.Nat.{_+_, _≤_, _<_, min};
+ghost use lib.ListN.{length, getD, take, drop};
 ghost use Rattle.text.specs.Permitted.{permitted, clean};
+ghost use Rattle.text.specs.steps.Stretch.{cleanEnd, isPlain, allPlain};
+
+// The bytes that are looked at together.
+const CHUNK: usize = 64;
 
 // Whether a ledger may hold the byte at a place: 9, 10, 32 to 126, or 13 directly before 10.
 fn may_stand(s: &[u8], at: usize) -> bool
-    requires { ⌜ Prim.Native.Nat._<_ at (length (now s)) ⌝ }
-    ensures { λ r. ⌜ r ≡ permitted (getD (now (s .entry)) at 0) (getD (now (s .entry)) (Prim.Native.Nat._+_ at 1) 0) ⌝ }
+    requires { ⌜ at < length (now s) ⌝ }
+    ensures { λ r. ⌜ r ≡ permitted (getD (now (s .entry)) at 0) (getD (now (s .entry)) (at + 1) 0) ⌝ }
 {
     let b = s[at];
     if b' ' <= b {
@@ -26,13 +30,34 @@ fn may_stand(s: &[u8], at: usize) -> bool
     false
 }
 
-// How many bytes stand before the first that a ledger may not hold: all of them where there is none.
-pub fn clean_prefix(s: &[u8]) -> usize
-    ensures { λ r. ⌜ r ≡ clean (now (s .entry)) ⌝ }
-    ensures { λ r. ⌜ r ≤ length (now (s .entry)) ⌝ }
+// A byte that a ledger may hold whatever follows it.
+fn is_plain(b: u8) -> bool
+    ensures { λ r. ⌜ r ≡ isPlain b ⌝ }
 {
+    ((b' ' <= b) & (b <= b'~')) | (b == b'\n') | (b == b'\t')
+}
+
+// Whether a chunk holds plain bytes alone. The loop has no way out, so that the compiler tests many bytes at a time.
+fn plain_chunk(s: &[u8], at: usize) -> bool
+    requires { ⌜ at + 64 ≤ length (now s) ⌝ }
+    ensures { λ r. ⌜ r ≡ allPlain (take 64 (drop at (now (s .entry)))) ⌝ }
+{
+    let mut all = true;
     let mut i = 0;
-    while i < s.len() {
+    while i < CHUNK {
+        all = all & is_plain(s[at + i]);
+        i += 1;
+    }
+    all
+}
+
+// Where the bytes from a place on that may stand end, or `to` where it comes first.
+fn clean_to(s: &[u8], from: usize, to: usize) -> usize
+    requires { ⌜ (from ≤ to) × (to ≤ length (now s)) ⌝ }
+    ensures { λ r. ⌜ r ≡ min (cleanEnd (now (s .entry)) from) to ⌝ }
+{
+    let mut i = from;
+    while i < to {
         if may_stand(s, i) {
             i += 1;
         } else {
@@ -40,4 +65,25 @@ pub fn clean_prefix(s: &[u8]) -> usize
         }
     }
     i
+}
+
+// How many bytes stand before the first that a ledger may not hold: all of them where there is none. A chunk that is not
+// plain, since it holds a carriage return or a byte that may not stand, is looked at byte by byte.
+pub fn clean_prefix(s: &[u8]) -> usize
+    ensures { λ r. ⌜ r ≡ clean (now (s .entry)) ⌝ }
+    ensures { λ r. ⌜ r ≤ length (now (s .entry)) ⌝ }
+{
+    let mut i = 0;
+    while CHUNK <= s.len() - i {
+        if plain_chunk(s, i) {
+            i += CHUNK;
+        } else {
+            let e = clean_to(s, i, i + CHUNK);
+            if e < i + CHUNK {
+                return e;
+            }
+            i += CHUNK;
+        }
+    }
+    clean_to(s, i, s.len())
 }

@@ -1,11 +1,19 @@
 -- The lines of rows that stand in a table already. A law shows that they are the lines of the rows.
-use Prim.Native.Nat.{ℕ, zero, suc, _+_}
+use Prim.Native.Nat.{ℕ, zero, suc, _+_, _≤_}
+use mathlib.Core.Path.{_≡_}
 use mathlib.Core.Bool.{cond}
 use mathlib.Core.List.{List, _++_}
 use lib.Dec.{leb}
 use lib.ListN.{length, take, drop}
+use Rattle.text.specs.Bytes.{inLine}
+use Rattle.text.specs.Run.{runTo}
+use Rattle.row.specs.declared.lines.Line.{Line}
 use Rattle.row.specs.Field.{le, un}
 use Rattle.row.specs.Row.{width, feeds}
+
+-- a line of s, which the code keeps beside the rows: it ends where the run of a line's bytes does, and has its number
+abbrev pub LineOf : List ℕ → Line → Type 0
+LineOf s l = (l .from ≤ length s) × (l .stop ≡ runTo inLine s (l .from)) × (l .number ≡ 1 + feeds (take (l .from) s))
 
 -- the bytes of a row with its line: one plus the line feeds of s before the start that stands in the row
 unfoldable pub lineSet : List ℕ → List ℕ → List ℕ

@@ -1,3 +1,4 @@
+use Rattle.row.proofs.FieldLaws.{put-parts}
 use Rattle.row.proofs.TableLaws.{rows, row-put}
 use borrow.Author.Needs.{needs}
 use Rattle.row.proofs.table.put_front.Statement.{statement}
@@ -6,33 +7,37 @@ use Rattle.row.proofs.table.put_front.Tie as tie
 returns : tie.Need-returns
 returns c = search (needs, rows)
 
-put-requires : tie.Need-put-requires
-put-requires c κs = search (needs, rows)
+put-four-requires : tie.Need-put-four-requires
+put-four-requires c κs = search (needs, rows)
 
-put-requires-2 : tie.Need-put-requires-2
-put-requires-2 c κs = search (needs, rows)
+put-four-requires-2 : tie.Need-put-four-requires-2
+put-four-requires-2 c κs = search (needs, rows)
 
-put-requires-3 : tie.Need-put-requires-3
-put-requires-3 c κs = search (needs, rows)
+put-four-requires-3 : tie.Need-put-four-requires-3
+put-four-requires-3 c κs = search (needs, rows)
 
-put-requires-4 : tie.Need-put-requires-4
-put-requires-4 c κs = search (needs, rows)
+put-four-requires-4 : tie.Need-put-four-requires-4
+put-four-requires-4 c κs = search (needs, rows)
 
-put-requires-5 : tie.Need-put-requires-5
-put-requires-5 c κs = search (needs, rows)
+put-four-requires-5 : tie.Need-put-four-requires-5
+put-four-requires-5 c κs = search (needs, rows)
 
-put-requires-6 : tie.Need-put-requires-6
-put-requires-6 c κs = search (needs, rows)
+put-four-requires-6 : tie.Need-put-four-requires-6
+put-four-requires-6 c κs = search (needs, rows)
 
-put-requires-7 : tie.Need-put-requires-7
-put-requires-7 c κs = search (needs, rows)
+put-four-requires-7 : tie.Need-put-four-requires-7
+put-four-requires-7 c κs = search (needs, rows)
+
+put-four-requires-8 : tie.Need-put-four-requires-8
+put-four-requires-8 c κs = search (needs, rows)
 
 same-length : tie.Need-same-length
 same-length c = search (needs, rows)
 
 returns-2 : tie.Need-returns-2
 returns-2 c =
-    let c7 = c .before .before in
+    let c8 = c .before .before in
+    let c7 = c8 .before .before .before .before in
     let c6 = c7 .before .before .before .before in
     let c5 = c6 .before .before .before .before in
     let c4 = c5 .before .before .before .before in
@@ -42,19 +47,21 @@ returns-2 c =
     let c0 = c1 .before .before in
     let a = c0 .before .before .args in
     row-put (a .r) (a .t .now) (c0 .if1 .left)
-    (c1 .put .ensures) (c2 .put2 .ensures) (c3 .put3 .ensures) (c4 .put4 .ensures) (c5 .put5 .ensures) (c6 .put6 .ensures) (c7 .put7 .ensures)
+    (c1 .put-four .ensures) (c2 .put-four2 .ensures) (c3 .put-four3 .ensures) (c4 .put-four4 .ensures) (c5 .put-four5 .ensures) (c6 .put-four6 .ensures)
+    (put-parts (c6 .put-four6 .last .0) 24 4 4 (a .r .bits) (c7 .put-four7 .ensures) (c8 .put-four8 .ensures))
 
 pub put-front-spec : {M : Type 1} → statement M
 put-front-spec =
     tie.close
     (tie.spec
     returns
-    put-requires
-    put-requires-2
-    put-requires-3
-    put-requires-4
-    put-requires-5
-    put-requires-6
-    put-requires-7
+    put-four-requires
+    put-four-requires-2
+    put-four-requires-3
+    put-four-requires-4
+    put-four-requires-5
+    put-four-requires-6
+    put-four-requires-7
+    put-four-requires-8
     same-length
     returns-2)
