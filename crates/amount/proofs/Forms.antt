@@ -14,8 +14,8 @@ use Rattle.decimal.specs.declared.Value.{Value}
 use Rattle.text.specs.Run.{blanks}
 use Rattle.text.specs.Answer.{Ans, To, Miss, Hard, _then_, _else_}
 use Rattle.text.proofs.Steps.{byte-within, such-within}
-use Rattle.amount.specs.Expression.{negatedValue, combined, isPlus, isTimes, goesOn, negation, inGroup, closed, group, within}
-use Rattle.amount.specs.steps.Answers.{answerOf, negatedAnswer, closedAnswer}
+use Rattle.amount.specs.Expression.{negatedValue, combined, isPlus, isTimes, goesOn, atom, products, negation, inGroup, closed, group, within}
+use Rattle.amount.specs.steps.Answers.{answerOf, operatorOf, operandOf, negatedAnswer, closedAnswer}
 use Rattle.amount.specs.declared.expression.Answer.{Answer}
 
 -- ---- what the arms of a match tell
@@ -193,22 +193,40 @@ module _ (r : Answer) where
   unfolding negatedAnswer
   negating-deep i q = rw q
 
+-- ---- the classes of operators
+
+zero-operates : (times : Bool) → operatorOf times 0 ≡ false
+unfolding operatorOf isPlus isTimes
+zero-operates true = refl
+zero-operates false = refl
+
+module _ (times : Bool) where
+  pub times-operand : (g : ℕ → Ans Value) (s : List ℕ) (at : ℕ) (o : Answer) → times ≡ true → o ≡ answerOf (atom g s at) → o ≡ answerOf (operandOf times g s at)
+  unfolding operandOf
+  times-operand g s at o f p = rw f p
+
+  pub plus-operand : (g : ℕ → Ans Value) (s : List ℕ) (at : ℕ) (o : Answer) → times ≡ false → o ≡ answerOf (products g s at) → o ≡ answerOf (operandOf times g s at)
+  unfolding operandOf
+  plus-operand g s at o f p = rw f p
+
+-- in the measure of the cycle: a sum stands above its products
+unfoldable pub stage : Bool → ℕ
+stage true = 0
+stage false = 3
+
+pub sum-stage : (times : Bool) → times ≡ false → stage times ≡ 3
+unfolding stage
+sum-stage times f = rw f
+
 -- ---- the place after a byte that is there
 
 module _ (s : List ℕ) (i b : ℕ) (l : length s < 2 ^ 64) (p : b ≡ getD s i 0) where
   pub byte-fits : (c : ℕ) → b ≡ c → eqb c 0 ≡ false → Fits w64 (i + 1)
   byte-fits c q z = let n = eqb-false c 0 z in let w = byte-within s i b p (omega arith) in record { fits = omega arith }
 
-  such-fits : (op : ℕ → Bool) (t : Bool) → op 0 ≡ false → t ≡ op b → t ≡ true → Fits w64 (i + 1)
-  such-fits op t z u f = let w = such-within op s i b z p (sym u ∙ f) in record { fits = omega arith }
-
-  pub plus-fits : (t : Bool) → t ≡ isPlus b → t ≡ true → Fits w64 (i + 1)
-  unfolding isPlus
-  plus-fits t u f = such-fits isPlus t refl u f
-
-  pub times-fits : (t : Bool) → t ≡ isTimes b → t ≡ true → Fits w64 (i + 1)
-  unfolding isTimes
-  times-fits t u f = such-fits isTimes t refl u f
+  -- t tells whether the byte is an operator
+  pub operator-fits : (times t : Bool) → t ≡ operatorOf times b → t ≡ true → Fits w64 (i + 1)
+  operator-fits times t u f = let w = such-within (operatorOf times) s i b (zero-operates times) p (sym u ∙ f) in record { fits = omega arith }
 
 pub ruleset closing-laws = (byte-fits, closing-read, closing-ends, closing-miss, closing-deep)
 
@@ -216,4 +234,6 @@ pub ruleset negating-laws = (negating-read, negating-miss, negating-deep)
 
 pub ruleset form-laws = (byte-fits, else-read, else-next, else-deep, then-on, then-miss, then-deep, no-group, deep-group, open-group, no-negation, negation-of)
 
-pub ruleset goes-laws = (plus-fits, times-fits, goes-done, goes-stop, goes-miss, goes-deep, goes-more)
+pub ruleset operand-laws = (times-operand, plus-operand)
+
+pub ruleset goes-laws = (operator-fits, goes-done, goes-stop, goes-miss, goes-deep, goes-more)

@@ -16,7 +16,7 @@ use Rattle.text.proofs.TestLaws.{absurd-bool, or-left, or-right, differ}
 use Rattle.text.proofs.Steps.{run-on, run-stops, run-same, run-first}
 use Rattle.amount.specs.Literal.{inLiteral, literalAs, between, unsigned, literal}
 use Rattle.amount.specs.Expression.{isPlus, isTimes, chain, atom, products, sums, negation, inGroup, group, within}
-use Rattle.amount.specs.steps.Answers.{answerOf}
+use Rattle.amount.specs.steps.Answers.{answerOf, operatorOf}
 use Rattle.amount.specs.declared.expression.Answer.{Answer}
 use Rattle.amount.proofs.Forms.{was-read, was-deep, group-misses}
 use Rattle.amount.proofs.ExpressionEnds.{none-between, goes-off}
@@ -77,7 +77,8 @@ module _ (s : List ℕ) where
 -- ---- the answers of the code
 
 -- b is the byte after blanks, and x and y whether it is such an operator
-pub operator-after : (s : List ℕ) (at i b : ℕ) (x y : Bool) → i ≡ blanks s at → b ≡ getD s i 0 → x ≡ isPlus b → y ≡ isTimes b → (x || y) ≡ (isPlus (getD s (blanks s at) 0) || isTimes (getD s (blanks s at) 0))
+pub operator-after : (s : List ℕ) (at i b : ℕ) (x y : Bool) → i ≡ blanks s at → b ≡ getD s i 0 → x ≡ operatorOf false b → y ≡ operatorOf true b → (x || y) ≡ (isPlus (getD s (blanks s at) 0) || isTimes (getD s (blanks s at) 0))
+unfolding operatorOf
 operator-after s at i b x y p q u v = rw (← p, ← q, u, v)
 
 -- r is the answer of the literal, and t whether an operator follows

@@ -11,7 +11,7 @@ ghost use lib.ListN.{length, getD};
 ghost use Rattle.text.specs.Run.{blanks};
 ghost use Rattle.text.specs.Answer.{_then_};
 ghost use Rattle.amount.specs.Expression.{negatedValue, operated, combined, isPlus, isTimes, goesOn, atom, products, sums, negation, closed, group, within, expression};
-ghost use Rattle.amount.specs.steps.Answers.{answerOf, negatedAnswer, closedAnswer};
+ghost use Rattle.amount.specs.steps.Answers.{answerOf, operatorOf, operandOf, negatedAnswer, closedAnswer};
 
 pub enum Answer {
     // Where it ends, with the value or its refusal.
@@ -61,16 +61,14 @@ fn combine(op: u8, v: Value, w: Value) -> Value
     }
 }
 
-fn is_plus(b: u8) -> bool
-    ensures { λ r. ⌜ r ≡ isPlus b ⌝ }
+// Whether a byte is `*` or `/` where `times`, else whether it is `+` or `-`.
+fn is_operator(times: bool, b: u8) -> bool
+    ensures { λ r. ⌜ r ≡ operatorOf times b ⌝ }
 {
+    if times {
+        return (b == b'*') | (b == b'/');
+    }
     (b == b'+') | (b == b'-')
-}
-
-fn is_times(b: u8) -> bool
-    ensures { λ r. ⌜ r ≡ isTimes b ⌝ }
-{
-    (b == b'*') | (b == b'/')
 }
 
 // A group's expression, then blanks and `)`.
@@ -126,9 +124,19 @@ fn atom_at(s: &[u8], at: usize, left: usize) -> Answer
     }
 }
 
-// `*` and `/` with their operands, from a value on.
-fn factors(s: &[u8], from: usize, first: Value, left: usize) -> Answer
-    ensures { λ r. ⌜ r ≡ answerOf (goesOn isTimes (atom (group left (now (s .entry))) (now (s .entry))) (now (s .entry)) (length (now (s .entry))) first from) ⌝ }
+// What `*` and `/` join where `times`, else what `+` and `-` join.
+fn operand_at(s: &[u8], at: usize, left: usize, times: bool) -> Answer
+    ensures { λ r. ⌜ r ≡ answerOf (operandOf times (group left (now (s .entry))) (now (s .entry)) at) ⌝ }
+{
+    if times {
+        return atom_at(s, at, left);
+    }
+    product_at(s, at, left)
+}
+
+// Operators of one class with their operands, from a value on.
+fn chain_from(s: &[u8], from: usize, first: Value, left: usize, times: bool) -> Answer
+    ensures { λ r. ⌜ r ≡ answerOf (goesOn (operatorOf times) (operandOf times (group left (now (s .entry))) (now (s .entry))) (now (s .entry)) (length (now (s .entry))) first from) ⌝ }
 {
     let mut end = from;
     let mut value = first;
@@ -136,8 +144,8 @@ fn factors(s: &[u8], from: usize, first: Value, left: usize) -> Answer
     while 0 < turns {
         let i = run::run(s, end, Class::Blank);
         let op = bytes::peek(s, i);
-        if is_times(op) {
-            let next = atom_at(s, run::run(s, i + 1, Class::Blank), left);
+        if is_operator(times, op) {
+            let next = operand_at(s, run::run(s, i + 1, Class::Blank), left, times);
             match next {
                 Answer::Read(f, w) => {
                     value = combine(op, value, w);
@@ -163,42 +171,10 @@ fn product_at(s: &[u8], at: usize, left: usize) -> Answer
 {
     let first = atom_at(s, at, left);
     match first {
-        Answer::Read(e, v) => factors(s, e, v, left),
+        Answer::Read(e, v) => chain_from(s, e, v, left, true),
         Answer::Miss => Answer::Miss,
         Answer::Deep(p) => Answer::Deep(p),
     }
-}
-
-// `+` and `-` with their operands, from a value on.
-fn terms(s: &[u8], from: usize, first: Value, left: usize) -> Answer
-    ensures { λ r. ⌜ r ≡ answerOf (goesOn isPlus (products (group left (now (s .entry))) (now (s .entry))) (now (s .entry)) (length (now (s .entry))) first from) ⌝ }
-{
-    let mut end = from;
-    let mut value = first;
-    let mut turns = s.len();
-    while 0 < turns {
-        let i = run::run(s, end, Class::Blank);
-        let op = bytes::peek(s, i);
-        if is_plus(op) {
-            let next = product_at(s, run::run(s, i + 1, Class::Blank), left);
-            match next {
-                Answer::Read(f, w) => {
-                    value = combine(op, value, w);
-                    end = f;
-                }
-                Answer::Miss => {
-                    return Answer::Read(end, value);
-                }
-                Answer::Deep(p) => {
-                    return Answer::Deep(p);
-                }
-            }
-        } else {
-            return Answer::Read(end, value);
-        }
-        turns -= 1;
-    }
-    Answer::Read(end, value)
 }
 
 fn sum_at(s: &[u8], at: usize, left: usize) -> Answer
@@ -206,7 +182,7 @@ fn sum_at(s: &[u8], at: usize, left: usize) -> Answer
 {
     let first = product_at(s, at, left);
     match first {
-        Answer::Read(e, v) => terms(s, e, v, left),
+        Answer::Read(e, v) => chain_from(s, e, v, left, false),
         Answer::Miss => Answer::Miss,
         Answer::Deep(p) => Answer::Deep(p),
     }
@@ -239,7 +215,7 @@ fn operator_follows(s: &[u8], at: usize) -> bool
     ensures { λ r. ⌜ r ≡ (let b = getD (now (s .entry)) (blanks (now (s .entry)) at) 0 in isPlus b || isTimes b) ⌝ }
 {
     let op = bytes::peek(s, run::run(s, at, Class::Blank));
-    is_plus(op) | is_times(op)
+    is_operator(false, op) | is_operator(true, op)
 }
 
 // Rule 8. A literal that no operator follows is all of it.

@@ -1,10 +1,11 @@
 -- The code's enums, each from the answer of the rule.
 use Prim.Native.Nat.{ℕ}
+use mathlib.Core.Bool.{Bool, true, false}
 use mathlib.Core.List.{List, [], _∷_}
 use Rattle.decimal.specs.declared.Value.{Value}
 use Rattle.text.specs.Answer.{Ans, To, Miss, Hard, _and_, must}
 use Rattle.text.specs.Leaves.{currency}
-use Rattle.amount.specs.Expression.{negatedValue, closed}
+use Rattle.amount.specs.Expression.{negatedValue, isPlus, isTimes, atom, products, closed}
 use Rattle.amount.specs.Details.{Rows, zeroValue, span, valued}
 use Rattle.amount.specs.Amounts.{hardGap, hardAmount}
 use Rattle.amount.specs.declared.amounts.Priced.{Priced}
@@ -28,6 +29,15 @@ oneOf (To j []) = One.Read j noRow
 oneOf (To j (d ∷ ds)) = One.Read j d
 oneOf Miss = One.Miss
 oneOf (Hard k p) = One.Hard k p
+
+-- the operators of a class, `*` and `/` or else `+` and `-`, and what they join
+unfoldable pub operatorOf : Bool → ℕ → Bool
+operatorOf true = isTimes
+operatorOf false = isPlus
+
+unfoldable pub operandOf : Bool → (ℕ → Ans Value) → List ℕ → ℕ → Ans Value
+operandOf true = atom
+operandOf false = products
 
 -- an expression's answer, negated
 unfoldable pub negatedAnswer : Answer → Answer

@@ -1,74 +1,74 @@
 use Prim.Native.Nat.{_+_, _*_}
 use mathlib.Core.Path.{_≡_}
 use Rattle.amount.specs.Expression.{isPlus, isTimes, goesOn, chain, atom, products, sums, inGroup, group, within}
-use Rattle.amount.proofs.Forms.{form-laws, goes-laws}
+use Rattle.amount.specs.steps.Answers.{operatorOf, operandOf}
+use Rattle.amount.proofs.Forms.{stage, sum-stage, form-laws, operand-laws, goes-laws}
 use borrow.Author.Needs.{needs}
 use Prim.Native.Nat.{ℕ, _<_}
 use borrow.Fn.Kinds.{In}
 use borrow.Fn.PlainCycle.{Measures, is, falls, and}
 use Rattle.amount.proofs.expression.atom_at.Reads as atom-at
 use Rattle.amount.proofs.expression.atom_at.Kinds as atom-at-kinds
-use Rattle.amount.proofs.expression.+atom_at+factors+group_at+negation_at+product_at+sum_at+terms+within_at.Lts-atom_at as atom-at-lts
-use Rattle.amount.proofs.expression.factors.Reads as factors
-use Rattle.amount.proofs.expression.factors.Kinds as factors-kinds
-use Rattle.amount.proofs.expression.+atom_at+factors+group_at+negation_at+product_at+sum_at+terms+within_at.Lts-factors as factors-lts
+use Rattle.amount.proofs.expression.+atom_at+chain_from+group_at+negation_at+operand_at+product_at+sum_at+within_at.Lts-atom_at as atom-at-lts
+use Rattle.amount.proofs.expression.chain_from.Reads as chain-from
+use Rattle.amount.proofs.expression.chain_from.Kinds as chain-from-kinds
+use Rattle.amount.proofs.expression.+atom_at+chain_from+group_at+negation_at+operand_at+product_at+sum_at+within_at.Lts-chain_from as chain-from-lts
 use Rattle.amount.proofs.expression.group_at.Reads as group-at
 use Rattle.amount.proofs.expression.group_at.Kinds as group-at-kinds
-use Rattle.amount.proofs.expression.+atom_at+factors+group_at+negation_at+product_at+sum_at+terms+within_at.Lts-group_at as group-at-lts
+use Rattle.amount.proofs.expression.+atom_at+chain_from+group_at+negation_at+operand_at+product_at+sum_at+within_at.Lts-group_at as group-at-lts
 use Rattle.amount.proofs.expression.negation_at.Reads as negation-at
 use Rattle.amount.proofs.expression.negation_at.Kinds as negation-at-kinds
-use Rattle.amount.proofs.expression.+atom_at+factors+group_at+negation_at+product_at+sum_at+terms+within_at.Lts-negation_at as negation-at-lts
+use Rattle.amount.proofs.expression.+atom_at+chain_from+group_at+negation_at+operand_at+product_at+sum_at+within_at.Lts-negation_at as negation-at-lts
+use Rattle.amount.proofs.expression.operand_at.Reads as operand-at
+use Rattle.amount.proofs.expression.operand_at.Kinds as operand-at-kinds
+use Rattle.amount.proofs.expression.+atom_at+chain_from+group_at+negation_at+operand_at+product_at+sum_at+within_at.Lts-operand_at as operand-at-lts
 use Rattle.amount.proofs.expression.product_at.Reads as product-at
 use Rattle.amount.proofs.expression.product_at.Kinds as product-at-kinds
-use Rattle.amount.proofs.expression.+atom_at+factors+group_at+negation_at+product_at+sum_at+terms+within_at.Lts-product_at as product-at-lts
+use Rattle.amount.proofs.expression.+atom_at+chain_from+group_at+negation_at+operand_at+product_at+sum_at+within_at.Lts-product_at as product-at-lts
 use Rattle.amount.proofs.expression.sum_at.Reads as sum-at
 use Rattle.amount.proofs.expression.sum_at.Kinds as sum-at-kinds
-use Rattle.amount.proofs.expression.+atom_at+factors+group_at+negation_at+product_at+sum_at+terms+within_at.Lts-sum_at as sum-at-lts
-use Rattle.amount.proofs.expression.terms.Reads as terms
-use Rattle.amount.proofs.expression.terms.Kinds as terms-kinds
-use Rattle.amount.proofs.expression.+atom_at+factors+group_at+negation_at+product_at+sum_at+terms+within_at.Lts-terms as terms-lts
+use Rattle.amount.proofs.expression.+atom_at+chain_from+group_at+negation_at+operand_at+product_at+sum_at+within_at.Lts-sum_at as sum-at-lts
 use Rattle.amount.proofs.expression.within_at.Reads as within-at
 use Rattle.amount.proofs.expression.within_at.Kinds as within-at-kinds
-use Rattle.amount.proofs.expression.+atom_at+factors+group_at+negation_at+product_at+sum_at+terms+within_at.Lts-within_at as within-at-lts
+use Rattle.amount.proofs.expression.+atom_at+chain_from+group_at+negation_at+operand_at+product_at+sum_at+within_at.Lts-within_at as within-at-lts
 use Rattle.amount.proofs.expression.closing.Reads as closing-reads
 use Rattle.amount.proofs.expression.combine.Reads as combine-reads
-use Rattle.amount.proofs.expression.is_plus.Reads as is-plus-reads
-use Rattle.amount.proofs.expression.is_times.Reads as is-times-reads
+use Rattle.amount.proofs.expression.is_operator.Reads as is-operator-reads
 use Rattle.amount.proofs.expression.negating.Reads as negating-reads
 use Rattle.amount.proofs.literal.literal_at.Reads as literal-at-reads
 use Rattle.text.proofs.bytes.peek.Reads as peek-reads
 use Rattle.text.proofs.run.run.Reads as run-reads
-use Rattle.amount.proofs.expression.+atom_at+factors+group_at+negation_at+product_at+sum_at+terms+within_at.{
+use Rattle.amount.proofs.expression.+atom_at+chain_from+group_at+negation_at+operand_at+product_at+sum_at+within_at.{
   statement,
 }
-use Rattle.amount.proofs.expression.+atom_at+factors+group_at+negation_at+product_at+sum_at+terms+within_at.Tie.{
+use Rattle.amount.proofs.expression.+atom_at+chain_from+group_at+negation_at+operand_at+product_at+sum_at+within_at.Tie.{
   close,
 }
 
 -- the groups that may still open fall at each group; where they are as many, the stage falls
 abbrev μ-atom-at : Measures 1 atom-at-kinds.ps ℕ
-μ-atom-at κs a = 8 * a .1 .1 .0 + 2
+μ-atom-at κs a = 10 * a .1 .1 .0 + 2
 
-abbrev μ-factors : Measures 1 factors-kinds.ps ℕ
-μ-factors κs a = 8 * a .1 .1 .1 .0 + 3
+abbrev μ-chain-from : Measures 1 chain-from-kinds.ps ℕ
+μ-chain-from κs a = 10 * a .1 .1 .1 .0 + stage (a .1 .1 .1 .1 .0) + 4
 
 abbrev μ-group-at : Measures 1 group-at-kinds.ps ℕ
-μ-group-at κs a = 8 * a .1 .1 .0 + 1
+μ-group-at κs a = 10 * a .1 .1 .0 + 1
 
 abbrev μ-negation-at : Measures 1 negation-at-kinds.ps ℕ
-μ-negation-at κs a = 8 * a .1 .1 .0 + 2
+μ-negation-at κs a = 10 * a .1 .1 .0 + 2
+
+abbrev μ-operand-at : Measures 1 operand-at-kinds.ps ℕ
+μ-operand-at κs a = 10 * a .1 .1 .0 + stage (a .1 .1 .1 .0) + 3
 
 abbrev μ-product-at : Measures 1 product-at-kinds.ps ℕ
-μ-product-at κs a = 8 * a .1 .1 .0 + 4
+μ-product-at κs a = 10 * a .1 .1 .0 + 5
 
 abbrev μ-sum-at : Measures 1 sum-at-kinds.ps ℕ
-μ-sum-at κs a = 8 * a .1 .1 .0 + 6
-
-abbrev μ-terms : Measures 1 terms-kinds.ps ℕ
-μ-terms κs a = 8 * a .1 .1 .1 .0 + 5
+μ-sum-at κs a = 10 * a .1 .1 .0 + 8
 
 abbrev μ-within-at : Measures 1 within-at-kinds.ps ℕ
-μ-within-at κs a = 8 * a .1 .1 .0 + 7
+μ-within-at κs a = 10 * a .1 .1 .0 + 9
 
 abbrev atom-at-at : ℕ → In 1 atom-at-kinds.ps
 atom-at-at t = and 1 atom-at-kinds.ps (is 1 atom-at-kinds.ps μ-atom-at t) atom-at.Pre
@@ -76,11 +76,13 @@ atom-at-at t = and 1 atom-at-kinds.ps (is 1 atom-at-kinds.ps μ-atom-at t) atom-
 abbrev atom-at-below : ℕ → In 1 atom-at-kinds.ps
 atom-at-below t = and 1 atom-at-kinds.ps (falls 1 atom-at-kinds.ps _<_ μ-atom-at t) atom-at.Pre
 
-abbrev factors-at : ℕ → In 1 factors-kinds.ps
-factors-at t = and 1 factors-kinds.ps (is 1 factors-kinds.ps μ-factors t) factors.Pre
+abbrev chain-from-at : ℕ → In 1 chain-from-kinds.ps
+chain-from-at t =
+    and 1 chain-from-kinds.ps (is 1 chain-from-kinds.ps μ-chain-from t) chain-from.Pre
 
-abbrev factors-below : ℕ → In 1 factors-kinds.ps
-factors-below t = and 1 factors-kinds.ps (falls 1 factors-kinds.ps _<_ μ-factors t) factors.Pre
+abbrev chain-from-below : ℕ → In 1 chain-from-kinds.ps
+chain-from-below t =
+    and 1 chain-from-kinds.ps (falls 1 chain-from-kinds.ps _<_ μ-chain-from t) chain-from.Pre
 
 abbrev group-at-at : ℕ → In 1 group-at-kinds.ps
 group-at-at t = and 1 group-at-kinds.ps (is 1 group-at-kinds.ps μ-group-at t) group-at.Pre
@@ -97,6 +99,14 @@ abbrev negation-at-below : ℕ → In 1 negation-at-kinds.ps
 negation-at-below t =
     and 1 negation-at-kinds.ps (falls 1 negation-at-kinds.ps _<_ μ-negation-at t) negation-at.Pre
 
+abbrev operand-at-at : ℕ → In 1 operand-at-kinds.ps
+operand-at-at t =
+    and 1 operand-at-kinds.ps (is 1 operand-at-kinds.ps μ-operand-at t) operand-at.Pre
+
+abbrev operand-at-below : ℕ → In 1 operand-at-kinds.ps
+operand-at-below t =
+    and 1 operand-at-kinds.ps (falls 1 operand-at-kinds.ps _<_ μ-operand-at t) operand-at.Pre
+
 abbrev product-at-at : ℕ → In 1 product-at-kinds.ps
 product-at-at t =
     and 1 product-at-kinds.ps (is 1 product-at-kinds.ps μ-product-at t) product-at.Pre
@@ -111,12 +121,6 @@ sum-at-at t = and 1 sum-at-kinds.ps (is 1 sum-at-kinds.ps μ-sum-at t) sum-at.Pr
 abbrev sum-at-below : ℕ → In 1 sum-at-kinds.ps
 sum-at-below t = and 1 sum-at-kinds.ps (falls 1 sum-at-kinds.ps _<_ μ-sum-at t) sum-at.Pre
 
-abbrev terms-at : ℕ → In 1 terms-kinds.ps
-terms-at t = and 1 terms-kinds.ps (is 1 terms-kinds.ps μ-terms t) terms.Pre
-
-abbrev terms-below : ℕ → In 1 terms-kinds.ps
-terms-below t = and 1 terms-kinds.ps (falls 1 terms-kinds.ps _<_ μ-terms t) terms.Pre
-
 abbrev within-at-at : ℕ → In 1 within-at-kinds.ps
 within-at-at t = and 1 within-at-kinds.ps (is 1 within-at-kinds.ps μ-within-at t) within-at.Pre
 
@@ -128,9 +132,9 @@ within-at-below t =
 abbrev atom-at-calls : ℕ → atom-at-lts.Claims
 atom-at-calls t = (literal-at-reads.Asked, literal-at-reads.Learnt, group-at-below t, group-at.Post)
 
--- what factors may ask of what it calls, below t, and learns of it
-abbrev factors-calls : ℕ → factors-lts.Claims
-factors-calls t = (run-reads.Asked, run-reads.Learnt, peek-reads.Asked, peek-reads.Learnt, is-times-reads.Asked, is-times-reads.Learnt, atom-at-below t, atom-at.Post, combine-reads.Asked, combine-reads.Learnt)
+-- what chain-from may ask of what it calls, below t, and learns of it
+abbrev chain-from-calls : ℕ → chain-from-lts.Claims
+chain-from-calls t = (run-reads.Asked, run-reads.Learnt, peek-reads.Asked, peek-reads.Learnt, is-operator-reads.Asked, is-operator-reads.Learnt, operand-at-below t, operand-at.Post, combine-reads.Asked, combine-reads.Learnt)
 
 -- what group-at may ask of what it calls, below t, and learns of it
 abbrev group-at-calls : ℕ → group-at-lts.Claims
@@ -140,17 +144,17 @@ group-at-calls t = (peek-reads.Asked, peek-reads.Learnt, run-reads.Asked, run-re
 abbrev negation-at-calls : ℕ → negation-at-lts.Claims
 negation-at-calls t = (peek-reads.Asked, peek-reads.Learnt, run-reads.Asked, run-reads.Learnt, group-at-below t, group-at.Post, negating-reads.Asked, negating-reads.Learnt)
 
+-- what operand-at may ask of what it calls, below t, and learns of it
+abbrev operand-at-calls : ℕ → operand-at-lts.Claims
+operand-at-calls t = (atom-at-below t, atom-at.Post, product-at-below t, product-at.Post)
+
 -- what product-at may ask of what it calls, below t, and learns of it
 abbrev product-at-calls : ℕ → product-at-lts.Claims
-product-at-calls t = (atom-at-below t, atom-at.Post, factors-below t, factors.Post)
+product-at-calls t = (atom-at-below t, atom-at.Post, chain-from-below t, chain-from.Post)
 
 -- what sum-at may ask of what it calls, below t, and learns of it
 abbrev sum-at-calls : ℕ → sum-at-lts.Claims
-sum-at-calls t = (product-at-below t, product-at.Post, terms-below t, terms.Post)
-
--- what terms may ask of what it calls, below t, and learns of it
-abbrev terms-calls : ℕ → terms-lts.Claims
-terms-calls t = (run-reads.Asked, run-reads.Learnt, peek-reads.Asked, peek-reads.Learnt, is-plus-reads.Asked, is-plus-reads.Learnt, product-at-below t, product-at.Post, combine-reads.Asked, combine-reads.Learnt)
+sum-at-calls t = (product-at-below t, product-at.Post, chain-from-below t, chain-from.Post)
 
 -- what within-at may ask of what it calls, below t, and learns of it
 abbrev within-at-calls : ℕ → within-at-lts.Claims
@@ -183,66 +187,66 @@ atom-at-returns-3 : (t : ℕ) → atom-at-lts.Need-returns-3 (atom-at-calls t) (
 unfolding atom
 atom-at-returns-3 t c = search (needs, form-laws)
 
-abbrev factors-Inv-loop : factors-lts.InvT-loop
-factors-Inv-loop s from left end₀ value₀ turns₀ end value turns =
-    goesOn isTimes (atom (group left s) s) s turns value end ≡ goesOn isTimes (atom (group left s) s) s turns₀ value₀ end₀
+abbrev chain-from-Inv-loop : chain-from-lts.InvT-loop
+chain-from-Inv-loop s from left times end₀ value₀ turns₀ end value turns =
+    goesOn (operatorOf times) (operandOf times (group left s) s) s turns value end ≡ goesOn (operatorOf times) (operandOf times (group left s) s) s turns₀ value₀ end₀
 
-abbrev factors-μ-loop : factors-lts.MeasureT-loop
-factors-μ-loop s from left end₀ value₀ turns₀ end value turns = turns
+abbrev chain-from-μ-loop : chain-from-lts.MeasureT-loop
+chain-from-μ-loop s from left times end₀ value₀ turns₀ end value turns = turns
 
-factors-loop-holds : (t : ℕ) → factors-lts.Need-loop-holds (factors-calls t) (factors-at t) factors.Post factors-Inv-loop factors-μ-loop
-factors-loop-holds t c = search needs
+chain-from-loop-holds : (t : ℕ) → chain-from-lts.Need-loop-holds (chain-from-calls t) (chain-from-at t) chain-from.Post chain-from-Inv-loop chain-from-μ-loop
+chain-from-loop-holds t c = search needs
 
-factors-run-requires : (t : ℕ) → factors-lts.Need-run-requires (factors-calls t) (factors-at t) factors.Post factors-Inv-loop factors-μ-loop
-factors-run-requires t c κs = search needs
+chain-from-run-requires : (t : ℕ) → chain-from-lts.Need-run-requires (chain-from-calls t) (chain-from-at t) chain-from.Post chain-from-Inv-loop chain-from-μ-loop
+chain-from-run-requires t c κs = search needs
 
-factors-peek-requires : (t : ℕ) → factors-lts.Need-peek-requires (factors-calls t) (factors-at t) factors.Post factors-Inv-loop factors-μ-loop
-factors-peek-requires t c κs = search needs
+chain-from-peek-requires : (t : ℕ) → chain-from-lts.Need-peek-requires (chain-from-calls t) (chain-from-at t) chain-from.Post chain-from-Inv-loop chain-from-μ-loop
+chain-from-peek-requires t c κs = search needs
 
-factors-is-times-requires : (t : ℕ) → factors-lts.Need-is-times-requires (factors-calls t) (factors-at t) factors.Post factors-Inv-loop factors-μ-loop
-factors-is-times-requires t c κs = search needs
+chain-from-is-operator-requires : (t : ℕ) → chain-from-lts.Need-is-operator-requires (chain-from-calls t) (chain-from-at t) chain-from.Post chain-from-Inv-loop chain-from-μ-loop
+chain-from-is-operator-requires t c κs = search needs
 
-factors-add-run : (t : ℕ) → factors-lts.Need-add-run (factors-calls t) (factors-at t) factors.Post factors-Inv-loop factors-μ-loop
-factors-add-run t c = search (needs, goes-laws)
+chain-from-add-run : (t : ℕ) → chain-from-lts.Need-add-run (chain-from-calls t) (chain-from-at t) chain-from.Post chain-from-Inv-loop chain-from-μ-loop
+chain-from-add-run t c = search (needs, goes-laws)
 
-factors-run-requires-2 : (t : ℕ) → factors-lts.Need-run-requires-2 (factors-calls t) (factors-at t) factors.Post factors-Inv-loop factors-μ-loop
-factors-run-requires-2 t c κs = search needs
+chain-from-run-requires-2 : (t : ℕ) → chain-from-lts.Need-run-requires-2 (chain-from-calls t) (chain-from-at t) chain-from.Post chain-from-Inv-loop chain-from-μ-loop
+chain-from-run-requires-2 t c κs = search needs
 
-factors-atom-at-requires : (t : ℕ) → factors-lts.Need-atom-at-requires (factors-calls t) (factors-at t) factors.Post factors-Inv-loop factors-μ-loop
-factors-atom-at-requires t c κs = search needs
+chain-from-operand-at-requires : (t : ℕ) → chain-from-lts.Need-operand-at-requires (chain-from-calls t) (chain-from-at t) chain-from.Post chain-from-Inv-loop chain-from-μ-loop
+chain-from-operand-at-requires t c κs = search needs
 
-factors-enum-known-next : (t : ℕ) → factors-lts.Need-enum-known-next (factors-calls t) (factors-at t) factors.Post factors-Inv-loop factors-μ-loop
-factors-enum-known-next t c = search needs
+chain-from-enum-known-next : (t : ℕ) → chain-from-lts.Need-enum-known-next (chain-from-calls t) (chain-from-at t) chain-from.Post chain-from-Inv-loop chain-from-μ-loop
+chain-from-enum-known-next t c = search needs
 
-factors-combine-requires : (t : ℕ) → factors-lts.Need-combine-requires (factors-calls t) (factors-at t) factors.Post factors-Inv-loop factors-μ-loop
-factors-combine-requires t c κs = search needs
+chain-from-combine-requires : (t : ℕ) → chain-from-lts.Need-combine-requires (chain-from-calls t) (chain-from-at t) chain-from.Post chain-from-Inv-loop chain-from-μ-loop
+chain-from-combine-requires t c κs = search needs
 
-factors-enum-told : (t : ℕ) → factors-lts.Need-enum-told (factors-calls t) (factors-at t) factors.Post factors-Inv-loop factors-μ-loop
-factors-enum-told t c = search needs
+chain-from-enum-told : (t : ℕ) → chain-from-lts.Need-enum-told (chain-from-calls t) (chain-from-at t) chain-from.Post chain-from-Inv-loop chain-from-μ-loop
+chain-from-enum-told t c = search needs
 
-factors-returns : (t : ℕ) → factors-lts.Need-returns (factors-calls t) (factors-at t) factors.Post factors-Inv-loop factors-μ-loop
-factors-returns t c = search (needs, goes-laws)
+chain-from-returns : (t : ℕ) → chain-from-lts.Need-returns (chain-from-calls t) (chain-from-at t) chain-from.Post chain-from-Inv-loop chain-from-μ-loop
+chain-from-returns t c = search (needs, goes-laws)
 
-factors-enum-known-next-2 : (t : ℕ) → factors-lts.Need-enum-known-next-2 (factors-calls t) (factors-at t) factors.Post factors-Inv-loop factors-μ-loop
-factors-enum-known-next-2 t c = search needs
+chain-from-enum-known-next-2 : (t : ℕ) → chain-from-lts.Need-enum-known-next-2 (chain-from-calls t) (chain-from-at t) chain-from.Post chain-from-Inv-loop chain-from-μ-loop
+chain-from-enum-known-next-2 t c = search needs
 
-factors-returns-2 : (t : ℕ) → factors-lts.Need-returns-2 (factors-calls t) (factors-at t) factors.Post factors-Inv-loop factors-μ-loop
-factors-returns-2 t c = search (needs, goes-laws)
+chain-from-returns-2 : (t : ℕ) → chain-from-lts.Need-returns-2 (chain-from-calls t) (chain-from-at t) chain-from.Post chain-from-Inv-loop chain-from-μ-loop
+chain-from-returns-2 t c = search (needs, goes-laws)
 
-factors-returns-3 : (t : ℕ) → factors-lts.Need-returns-3 (factors-calls t) (factors-at t) factors.Post factors-Inv-loop factors-μ-loop
-factors-returns-3 t c = search (needs, goes-laws)
+chain-from-returns-3 : (t : ℕ) → chain-from-lts.Need-returns-3 (chain-from-calls t) (chain-from-at t) chain-from.Post chain-from-Inv-loop chain-from-μ-loop
+chain-from-returns-3 t c = search (needs, goes-laws)
 
-factors-sub-turns : (t : ℕ) → factors-lts.Need-sub-turns (factors-calls t) (factors-at t) factors.Post factors-Inv-loop factors-μ-loop
-factors-sub-turns t c = search needs
+chain-from-sub-turns : (t : ℕ) → chain-from-lts.Need-sub-turns (chain-from-calls t) (chain-from-at t) chain-from.Post chain-from-Inv-loop chain-from-μ-loop
+chain-from-sub-turns t c = search needs
 
-factors-loop-less : (t : ℕ) → factors-lts.Need-loop-less (factors-calls t) (factors-at t) factors.Post factors-Inv-loop factors-μ-loop
-factors-loop-less t c = search needs
+chain-from-loop-less : (t : ℕ) → chain-from-lts.Need-loop-less (chain-from-calls t) (chain-from-at t) chain-from.Post chain-from-Inv-loop chain-from-μ-loop
+chain-from-loop-less t c = search needs
 
-factors-loop-again : (t : ℕ) → factors-lts.Need-loop-again (factors-calls t) (factors-at t) factors.Post factors-Inv-loop factors-μ-loop
-factors-loop-again t c = search (needs, goes-laws)
+chain-from-loop-again : (t : ℕ) → chain-from-lts.Need-loop-again (chain-from-calls t) (chain-from-at t) chain-from.Post chain-from-Inv-loop chain-from-μ-loop
+chain-from-loop-again t c = search (needs, goes-laws)
 
-factors-returns-4 : (t : ℕ) → factors-lts.Need-returns-4 (factors-calls t) (factors-at t) factors.Post factors-Inv-loop factors-μ-loop
-factors-returns-4 t c = search (needs, goes-laws)
+chain-from-returns-4 : (t : ℕ) → chain-from-lts.Need-returns-4 (chain-from-calls t) (chain-from-at t) chain-from.Post chain-from-Inv-loop chain-from-μ-loop
+chain-from-returns-4 t c = search (needs, goes-laws)
 
 group-at-peek-requires : (t : ℕ) → group-at-lts.Need-peek-requires (group-at-calls t) (group-at-at t) group-at.Post
 group-at-peek-requires t c κs = search needs
@@ -292,14 +296,27 @@ negation-at-returns t c = search (needs, form-laws)
 negation-at-returns-2 : (t : ℕ) → negation-at-lts.Need-returns-2 (negation-at-calls t) (negation-at-at t) negation-at.Post
 negation-at-returns-2 t c = search (needs, form-laws)
 
+operand-at-atom-at-requires : (t : ℕ) → operand-at-lts.Need-atom-at-requires (operand-at-calls t) (operand-at-at t) operand-at.Post
+operand-at-atom-at-requires t c κs = search needs
+
+operand-at-returns : (t : ℕ) → operand-at-lts.Need-returns (operand-at-calls t) (operand-at-at t) operand-at.Post
+operand-at-returns t c = search (needs, operand-laws)
+
+operand-at-product-at-requires : (t : ℕ) → operand-at-lts.Need-product-at-requires (operand-at-calls t) (operand-at-at t) operand-at.Post
+operand-at-product-at-requires t c κs = let z = sum-stage _ (c .if1 .left) in search needs
+
+operand-at-returns-2 : (t : ℕ) → operand-at-lts.Need-returns-2 (operand-at-calls t) (operand-at-at t) operand-at.Post
+operand-at-returns-2 t c = search (needs, operand-laws)
+
 product-at-atom-at-requires : (t : ℕ) → product-at-lts.Need-atom-at-requires (product-at-calls t) (product-at-at t) product-at.Post
 product-at-atom-at-requires t c κs = search needs
 
 product-at-enum-known-first : (t : ℕ) → product-at-lts.Need-enum-known-first (product-at-calls t) (product-at-at t) product-at.Post
 product-at-enum-known-first t c = search needs
 
-product-at-factors-requires : (t : ℕ) → product-at-lts.Need-factors-requires (product-at-calls t) (product-at-at t) product-at.Post
-product-at-factors-requires t c κs = search needs
+product-at-chain-from-requires : (t : ℕ) → product-at-lts.Need-chain-from-requires (product-at-calls t) (product-at-at t) product-at.Post
+unfolding stage
+product-at-chain-from-requires t c κs = search needs
 
 product-at-enum-told : (t : ℕ) → product-at-lts.Need-enum-told (product-at-calls t) (product-at-at t) product-at.Post
 product-at-enum-told t c = search needs
@@ -308,15 +325,15 @@ product-at-enum-known-first-2 : (t : ℕ) → product-at-lts.Need-enum-known-fir
 product-at-enum-known-first-2 t c = search needs
 
 product-at-returns : (t : ℕ) → product-at-lts.Need-returns (product-at-calls t) (product-at-at t) product-at.Post
-unfolding products chain
+unfolding products chain operatorOf operandOf
 product-at-returns t c = search (needs, form-laws)
 
 product-at-returns-2 : (t : ℕ) → product-at-lts.Need-returns-2 (product-at-calls t) (product-at-at t) product-at.Post
-unfolding products chain
+unfolding products chain operatorOf operandOf
 product-at-returns-2 t c = search (needs, form-laws)
 
 product-at-returns-3 : (t : ℕ) → product-at-lts.Need-returns-3 (product-at-calls t) (product-at-at t) product-at.Post
-unfolding products chain
+unfolding products chain operatorOf operandOf
 product-at-returns-3 t c = search (needs, form-laws)
 
 sum-at-product-at-requires : (t : ℕ) → sum-at-lts.Need-product-at-requires (sum-at-calls t) (sum-at-at t) sum-at.Post
@@ -325,8 +342,9 @@ sum-at-product-at-requires t c κs = search needs
 sum-at-enum-known-first : (t : ℕ) → sum-at-lts.Need-enum-known-first (sum-at-calls t) (sum-at-at t) sum-at.Post
 sum-at-enum-known-first t c = search needs
 
-sum-at-terms-requires : (t : ℕ) → sum-at-lts.Need-terms-requires (sum-at-calls t) (sum-at-at t) sum-at.Post
-sum-at-terms-requires t c κs = search needs
+sum-at-chain-from-requires : (t : ℕ) → sum-at-lts.Need-chain-from-requires (sum-at-calls t) (sum-at-at t) sum-at.Post
+unfolding stage
+sum-at-chain-from-requires t c κs = search needs
 
 sum-at-enum-told : (t : ℕ) → sum-at-lts.Need-enum-told (sum-at-calls t) (sum-at-at t) sum-at.Post
 sum-at-enum-told t c = search needs
@@ -335,77 +353,16 @@ sum-at-enum-known-first-2 : (t : ℕ) → sum-at-lts.Need-enum-known-first-2 (su
 sum-at-enum-known-first-2 t c = search needs
 
 sum-at-returns : (t : ℕ) → sum-at-lts.Need-returns (sum-at-calls t) (sum-at-at t) sum-at.Post
-unfolding sums chain
+unfolding sums chain operatorOf operandOf
 sum-at-returns t c = search (needs, form-laws)
 
 sum-at-returns-2 : (t : ℕ) → sum-at-lts.Need-returns-2 (sum-at-calls t) (sum-at-at t) sum-at.Post
-unfolding sums chain
+unfolding sums chain operatorOf operandOf
 sum-at-returns-2 t c = search (needs, form-laws)
 
 sum-at-returns-3 : (t : ℕ) → sum-at-lts.Need-returns-3 (sum-at-calls t) (sum-at-at t) sum-at.Post
-unfolding sums chain
+unfolding sums chain operatorOf operandOf
 sum-at-returns-3 t c = search (needs, form-laws)
-
-abbrev terms-Inv-loop : terms-lts.InvT-loop
-terms-Inv-loop s from left end₀ value₀ turns₀ end value turns =
-    goesOn isPlus (products (group left s) s) s turns value end ≡ goesOn isPlus (products (group left s) s) s turns₀ value₀ end₀
-
-abbrev terms-μ-loop : terms-lts.MeasureT-loop
-terms-μ-loop s from left end₀ value₀ turns₀ end value turns = turns
-
-terms-loop-holds : (t : ℕ) → terms-lts.Need-loop-holds (terms-calls t) (terms-at t) terms.Post terms-Inv-loop terms-μ-loop
-terms-loop-holds t c = search needs
-
-terms-run-requires : (t : ℕ) → terms-lts.Need-run-requires (terms-calls t) (terms-at t) terms.Post terms-Inv-loop terms-μ-loop
-terms-run-requires t c κs = search needs
-
-terms-peek-requires : (t : ℕ) → terms-lts.Need-peek-requires (terms-calls t) (terms-at t) terms.Post terms-Inv-loop terms-μ-loop
-terms-peek-requires t c κs = search needs
-
-terms-is-plus-requires : (t : ℕ) → terms-lts.Need-is-plus-requires (terms-calls t) (terms-at t) terms.Post terms-Inv-loop terms-μ-loop
-terms-is-plus-requires t c κs = search needs
-
-terms-add-run : (t : ℕ) → terms-lts.Need-add-run (terms-calls t) (terms-at t) terms.Post terms-Inv-loop terms-μ-loop
-terms-add-run t c = search (needs, goes-laws)
-
-terms-run-requires-2 : (t : ℕ) → terms-lts.Need-run-requires-2 (terms-calls t) (terms-at t) terms.Post terms-Inv-loop terms-μ-loop
-terms-run-requires-2 t c κs = search needs
-
-terms-product-at-requires : (t : ℕ) → terms-lts.Need-product-at-requires (terms-calls t) (terms-at t) terms.Post terms-Inv-loop terms-μ-loop
-terms-product-at-requires t c κs = search needs
-
-terms-enum-known-next : (t : ℕ) → terms-lts.Need-enum-known-next (terms-calls t) (terms-at t) terms.Post terms-Inv-loop terms-μ-loop
-terms-enum-known-next t c = search needs
-
-terms-combine-requires : (t : ℕ) → terms-lts.Need-combine-requires (terms-calls t) (terms-at t) terms.Post terms-Inv-loop terms-μ-loop
-terms-combine-requires t c κs = search needs
-
-terms-enum-told : (t : ℕ) → terms-lts.Need-enum-told (terms-calls t) (terms-at t) terms.Post terms-Inv-loop terms-μ-loop
-terms-enum-told t c = search needs
-
-terms-returns : (t : ℕ) → terms-lts.Need-returns (terms-calls t) (terms-at t) terms.Post terms-Inv-loop terms-μ-loop
-terms-returns t c = search (needs, goes-laws)
-
-terms-enum-known-next-2 : (t : ℕ) → terms-lts.Need-enum-known-next-2 (terms-calls t) (terms-at t) terms.Post terms-Inv-loop terms-μ-loop
-terms-enum-known-next-2 t c = search needs
-
-terms-returns-2 : (t : ℕ) → terms-lts.Need-returns-2 (terms-calls t) (terms-at t) terms.Post terms-Inv-loop terms-μ-loop
-terms-returns-2 t c = search (needs, goes-laws)
-
-terms-returns-3 : (t : ℕ) → terms-lts.Need-returns-3 (terms-calls t) (terms-at t) terms.Post terms-Inv-loop terms-μ-loop
-terms-returns-3 t c = search (needs, goes-laws)
-
-terms-sub-turns : (t : ℕ) → terms-lts.Need-sub-turns (terms-calls t) (terms-at t) terms.Post terms-Inv-loop terms-μ-loop
-terms-sub-turns t c = search needs
-
-terms-loop-less : (t : ℕ) → terms-lts.Need-loop-less (terms-calls t) (terms-at t) terms.Post terms-Inv-loop terms-μ-loop
-terms-loop-less t c = search needs
-
-terms-loop-again : (t : ℕ) → terms-lts.Need-loop-again (terms-calls t) (terms-at t) terms.Post terms-Inv-loop terms-μ-loop
-terms-loop-again t c = search (needs, goes-laws)
-
-terms-returns-4 : (t : ℕ) → terms-lts.Need-returns-4 (terms-calls t) (terms-at t) terms.Post terms-Inv-loop terms-μ-loop
-terms-returns-4 t c = search (needs, goes-laws)
 
 within-at-negation-at-requires : (t : ℕ) → within-at-lts.Need-negation-at-requires (within-at-calls t) (within-at-at t) within-at.Post
 within-at-negation-at-requires t c κs = search needs
@@ -434,17 +391,17 @@ within-at-returns-3 : (t : ℕ) → within-at-lts.Need-returns-3 (within-at-call
 unfolding within inGroup
 within-at-returns-3 t c = search (needs, form-laws)
 
-pub +atom-at+factors+group-at+negation-at+product-at+sum-at+terms+within-at-spec :
+pub +atom-at+chain-from+group-at+negation-at+operand-at+product-at+sum-at+within-at-spec :
     {M : Type 1} → statement M
-+atom-at+factors+group-at+negation-at+product-at+sum-at+terms+within-at-spec =
++atom-at+chain-from+group-at+negation-at+operand-at+product-at+sum-at+within-at-spec =
     close
     μ-atom-at
-    μ-factors
+    μ-chain-from
     μ-group-at
     μ-negation-at
+    μ-operand-at
     μ-product-at
     μ-sum-at
-    μ-terms
     μ-within-at
     (λ t. atom-at-lts.spec (atom-at-calls t)
     (atom-at-at t)
@@ -457,29 +414,29 @@ pub +atom-at+factors+group-at+negation-at+product-at+sum-at+terms+within-at-spec
     (atom-at-returns t)
     (atom-at-returns-2 t)
     (atom-at-returns-3 t))
-    (λ t. factors-lts.spec (factors-calls t)
-    (factors-at t)
-    factors.Post
-    factors-Inv-loop
-    factors-μ-loop
-    (factors-loop-holds t)
-    (factors-run-requires t)
-    (factors-peek-requires t)
-    (factors-is-times-requires t)
-    (factors-add-run t)
-    (factors-run-requires-2 t)
-    (factors-atom-at-requires t)
-    (factors-enum-known-next t)
-    (factors-combine-requires t)
-    (factors-enum-told t)
-    (factors-returns t)
-    (factors-enum-known-next-2 t)
-    (factors-returns-2 t)
-    (factors-returns-3 t)
-    (factors-sub-turns t)
-    (factors-loop-less t)
-    (factors-loop-again t)
-    (factors-returns-4 t))
+    (λ t. chain-from-lts.spec (chain-from-calls t)
+    (chain-from-at t)
+    chain-from.Post
+    chain-from-Inv-loop
+    chain-from-μ-loop
+    (chain-from-loop-holds t)
+    (chain-from-run-requires t)
+    (chain-from-peek-requires t)
+    (chain-from-is-operator-requires t)
+    (chain-from-add-run t)
+    (chain-from-run-requires-2 t)
+    (chain-from-operand-at-requires t)
+    (chain-from-enum-known-next t)
+    (chain-from-combine-requires t)
+    (chain-from-enum-told t)
+    (chain-from-returns t)
+    (chain-from-enum-known-next-2 t)
+    (chain-from-returns-2 t)
+    (chain-from-returns-3 t)
+    (chain-from-sub-turns t)
+    (chain-from-loop-less t)
+    (chain-from-loop-again t)
+    (chain-from-returns-4 t))
     (λ t. group-at-lts.spec (group-at-calls t)
     (group-at-at t)
     group-at.Post
@@ -502,12 +459,19 @@ pub +atom-at+factors+group-at+negation-at+product-at+sum-at+terms+within-at-spec
     (negation-at-negating-requires t)
     (negation-at-returns t)
     (negation-at-returns-2 t))
+    (λ t. operand-at-lts.spec (operand-at-calls t)
+    (operand-at-at t)
+    operand-at.Post
+    (operand-at-atom-at-requires t)
+    (operand-at-returns t)
+    (operand-at-product-at-requires t)
+    (operand-at-returns-2 t))
     (λ t. product-at-lts.spec (product-at-calls t)
     (product-at-at t)
     product-at.Post
     (product-at-atom-at-requires t)
     (product-at-enum-known-first t)
-    (product-at-factors-requires t)
+    (product-at-chain-from-requires t)
     (product-at-enum-told t)
     (product-at-enum-known-first-2 t)
     (product-at-returns t)
@@ -518,35 +482,12 @@ pub +atom-at+factors+group-at+negation-at+product-at+sum-at+terms+within-at-spec
     sum-at.Post
     (sum-at-product-at-requires t)
     (sum-at-enum-known-first t)
-    (sum-at-terms-requires t)
+    (sum-at-chain-from-requires t)
     (sum-at-enum-told t)
     (sum-at-enum-known-first-2 t)
     (sum-at-returns t)
     (sum-at-returns-2 t)
     (sum-at-returns-3 t))
-    (λ t. terms-lts.spec (terms-calls t)
-    (terms-at t)
-    terms.Post
-    terms-Inv-loop
-    terms-μ-loop
-    (terms-loop-holds t)
-    (terms-run-requires t)
-    (terms-peek-requires t)
-    (terms-is-plus-requires t)
-    (terms-add-run t)
-    (terms-run-requires-2 t)
-    (terms-product-at-requires t)
-    (terms-enum-known-next t)
-    (terms-combine-requires t)
-    (terms-enum-told t)
-    (terms-returns t)
-    (terms-enum-known-next-2 t)
-    (terms-returns-2 t)
-    (terms-returns-3 t)
-    (terms-sub-turns t)
-    (terms-loop-less t)
-    (terms-loop-again t)
-    (terms-returns-4 t))
     λ t. within-at-lts.spec (within-at-calls t)
     (within-at-at t)
     within-at.Post
