@@ -1,11 +1,12 @@
 -- The answers of the code that reads a literal: at each return, and each way round a loop, what the code knows there. r is what its test
 -- for a digit gave.
 use Prim.Native.Nat.{ℕ, _+_, _-_, _*_, _^_, _≤_, _<_}
-use mathlib.Core.Path.{_≡_, sym, _∙_}
-use mathlib.Core.Bool.{Bool, true, false}
+use mathlib.Core.Path.{_≡_, sym, _∙_, ap}
+use mathlib.Core.Bool.{Bool, true, false, cond}
 use mathlib.Core.List.{List}
 use native.Mathlib.Omega.{arith}
 use native.Mathlib.Nat.{add-mul, mul-assoc, mul-right-comm, mul-le-mul-right, le-mul-of-pos-right, sub-eq-zero-of-le}
+use lib.Dec.{eqb, ltb}
 use lib.ListN.{length, drop, getD}
 use mir.Syntax.{w64}
 use mir.Val.{Fits}
@@ -188,13 +189,19 @@ module _ (s : List ℕ) (at b : ℕ) (q : b ≡ getD s at 0) where
   pub minus-fits : b ≡ 45 → length s < 2 ^ 64 → Fits w64 (at + 1)
   minus-fits p h = let l = byte-within s at b q (omega arith) in record { fits = omega arith }
 
-  module _ (a : Answer) where
-    pub minus-met : b ≡ 45 → a ≡ answerOf (unsigned true s (at + 1)) → a ≡ answerOf (literal s at)
-    unfolding literal
-    minus-met p g = rw (← q, p) g
+  pub minus-met : b ≡ 45 → at + 1 ≡ cond (eqb (getD s at 0) 45) (at + 1) at
+  minus-met p = rw (← q, p)
 
-    pub none-met : (b ≡ 45 → ⊥) → a ≡ answerOf (unsigned false s at) → a ≡ answerOf (literal s at)
-    unfolding literal
-    none-met p g = rw (← q, ne-eqb b 45 p) g
+  pub none-met : (b ≡ 45 → ⊥) → at ≡ cond (eqb (getD s at 0) 45) (at + 1) at
+  none-met p = rw (← q, ne-eqb b 45 p)
 
-pub ruleset literal-laws = (minus-fits, minus-met, none-met)
+pub ruleset sign-laws = (minus-fits, minus-met, none-met)
+
+-- a sign is where it ends past its start: e is the end
+pub sign-met : (s : List ℕ) (at e : ℕ) (a : Answer) → e ≡ cond (eqb (getD s at 0) 45) (at + 1) at → a ≡ answerOf (unsigned (ltb at e) s e) → a ≡ answerOf (literal s at)
+unfolding literal
+sign-met s at e a h g = go (eqb (getD s at 0) 45) (g ∙ ap (λ n. answerOf (unsigned (ltb at n) s n)) h)
+  where
+    go : (t : Bool) → a ≡ answerOf (unsigned (ltb at (cond t (at + 1) at)) s (cond t (at + 1) at)) → a ≡ answerOf (cond t (unsigned true s (at + 1)) (unsigned false s at))
+    go true g = g ∙ ap (λ m. answerOf (unsigned m s (at + 1))) (lt-ltb at (at + 1) (omega arith))
+    go false g = g ∙ ap (λ m. answerOf (unsigned m s at)) (le-ltb at at (omega arith))

@@ -224,11 +224,11 @@ pub fn expression_at(s: &[u8], at: usize) -> Answer
 {
     let number = literal::literal_at(s, at);
     match number {
-        Answer::Read(e, v) => {
+        Answer::Read(e, _) => {
             if operator_follows(s, e) {
                 within_at(s, at, GROUPS)
             } else {
-                Answer::Read(e, v)
+                number
             }
         }
         Answer::Miss => within_at(s, at, GROUPS),

@@ -5,9 +5,10 @@ use text::bytes;
 use text::run;
 use text::run::Class;
 ghost use mathlib.Core.Path.{_≡_};
-ghost use mathlib.Core.Bool.{false};
+ghost use mathlib.Core.Bool.{false, cond};
 ghost use Prim.Native.Nat.{_+_, _*_, _<_, _≤_};
-ghost use lib.ListN.{drop, length};
+ghost use lib.Dec.{eqb};
+ghost use lib.ListN.{drop, length, getD};
 ghost use Rattle.amount.specs.Literal.{unsigned, literal};
 ghost use Rattle.amount.specs.steps.Kept.{wholeFrom, fractionFrom, factor, keptValue, wholeLiteral, pointLiteral};
 ghost use Rattle.amount.specs.steps.Answers.{answerOf};
@@ -185,13 +186,21 @@ fn unsigned_at(minus: bool, s: &[u8], at: usize) -> Answer
     without_point(minus, w)
 }
 
+// Where a sign ends, or the place where none stands.
+fn sign_end(s: &[u8], at: usize) -> usize
+    ensures { λ r. ⌜ r ≡ cond (eqb (getD (now (s .entry)) at 0) 45) (at + 1) at ⌝ }
+{
+    if bytes::peek(s, at) == b'-' {
+        at + 1
+    } else {
+        at
+    }
+}
+
 // Rule 9. An expression is its only caller.
 pub fn literal_at(s: &[u8], at: usize) -> Answer
     ensures { λ r. ⌜ r ≡ answerOf (literal (now (s .entry)) at) ⌝ }
 {
-    if bytes::peek(s, at) == b'-' {
-        unsigned_at(true, s, at + 1)
-    } else {
-        unsigned_at(false, s, at)
-    }
+    let from = sign_end(s, at);
+    unsigned_at(at < from, s, from)
 }
