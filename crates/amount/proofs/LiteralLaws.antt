@@ -6,7 +6,7 @@ use mathlib.Core.Bool.{Bool, true, false, cond}
 use mathlib.Core.List.{List}
 use native.Mathlib.Omega.{arith}
 use native.Mathlib.Nat.{add-mul, mul-assoc, mul-right-comm, mul-le-mul-right, le-mul-of-pos-right, sub-eq-zero-of-le}
-use lib.Dec.{eqb, ltb}
+use lib.Dec.{eqb}
 use lib.ListN.{length, drop, getD}
 use mir.Syntax.{w64}
 use mir.Val.{Fits}
@@ -197,11 +197,12 @@ module _ (s : List ℕ) (at b : ℕ) (q : b ≡ getD s at 0) where
 
 pub ruleset sign-laws = (minus-fits, minus-met, none-met)
 
--- a sign is where it ends past its start: e is the end
-pub sign-met : (s : List ℕ) (at e : ℕ) (a : Answer) → e ≡ cond (eqb (getD s at 0) 45) (at + 1) at → a ≡ answerOf (unsigned (ltb at e) s e) → a ≡ answerOf (literal s at)
+-- b is the byte where a sign may stand, e where it ends
+pub sign-met : (s : List ℕ) (at e b : ℕ) (a : Answer) → b ≡ getD s at 0 → e ≡ cond (eqb (getD s at 0) 45) (at + 1) at → a ≡ answerOf (unsigned (eqb b 45) s e)
+    → a ≡ answerOf (literal s at)
 unfolding literal
-sign-met s at e a h g = go (eqb (getD s at 0) 45) (g ∙ ap (λ n. answerOf (unsigned (ltb at n) s n)) h)
+sign-met s at e b a q h g = go (eqb (getD s at 0) 45) (g ∙ ap (λ n. answerOf (unsigned (eqb n 45) s e)) q ∙ ap (λ n. answerOf (unsigned (eqb (getD s at 0) 45) s n)) h)
   where
-    go : (t : Bool) → a ≡ answerOf (unsigned (ltb at (cond t (at + 1) at)) s (cond t (at + 1) at)) → a ≡ answerOf (cond t (unsigned true s (at + 1)) (unsigned false s at))
-    go true g = g ∙ ap (λ m. answerOf (unsigned m s (at + 1))) (lt-ltb at (at + 1) (omega arith))
-    go false g = g ∙ ap (λ m. answerOf (unsigned m s at)) (le-ltb at at (omega arith))
+    go : (t : Bool) → a ≡ answerOf (unsigned t s (cond t (at + 1) at)) → a ≡ answerOf (cond t (unsigned true s (at + 1)) (unsigned false s at))
+    go true g = g
+    go false g = g

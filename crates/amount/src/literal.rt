@@ -201,6 +201,6 @@ fn sign_end(s: &[u8], at: usize) -> usize
 pub fn literal_at(s: &[u8], at: usize) -> Answer
     ensures { λ r. ⌜ r ≡ answerOf (literal (now (s .entry)) at) ⌝ }
 {
-    let from = sign_end(s, at);
-    unsigned_at(at < from, s, from)
+    let minus = bytes::peek(s, at) == b'-';
+    unsigned_at(minus, s, sign_end(s, at))
 }

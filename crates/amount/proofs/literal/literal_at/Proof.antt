@@ -3,6 +3,9 @@ use borrow.Author.Needs.{needs}
 use Rattle.amount.proofs.literal.literal_at.Statement.{statement}
 use Rattle.amount.proofs.literal.literal_at.Tie as tie
 
+peek-requires : tie.Need-peek-requires
+peek-requires c κs = search (needs, sign-met)
+
 sign-end-requires : tie.Need-sign-end-requires
 sign-end-requires c κs = search (needs, sign-met)
 
@@ -13,4 +16,4 @@ returns : tie.Need-returns
 returns c = search (needs, sign-met)
 
 pub literal-at-spec : {M : Type 1} → statement M
-literal-at-spec = tie.close (tie.spec sign-end-requires unsigned-at-requires returns)
+literal-at-spec = tie.close (tie.spec peek-requires sign-end-requires unsigned-at-requires returns)
