@@ -3,14 +3,13 @@ use Prim.Native.Nat.{ℕ, zero, suc, _+_, _-_, _<_, _≤_, zero-le}
 use native.Mathlib.Nat.{add-zero}
 use native.Mathlib.Omega.{arith}
 use mathlib.Core.Path.{_≡_, refl, sym, ap, _∙_}
-use mathlib.Core.Bool.{Bool, true, false, cond, _||_}
+use mathlib.Core.Bool.{Bool, true, false, cond}
 use mathlib.Core.List.{List, [], _∷_, _++_, append-assoc}
 use borrow.Author.Tests.{eqb-true}
 use lib.Dec.{eqb}
 use lib.ListN.{length, getD, take, drop, length-append, length-take, length-drop, take-append-drop}
 use lib.Seq.{take-append-le, drop-append-le, getD-drop}
 use Rattle.text.proofs.TestLaws.{absurd-bool, or-left, or-right}
-use Rattle.row.specs.declared.table.Row.{Row}
 use Rattle.row.specs.Row.{feeds}
 use Rattle.row.specs.Strings.{isStart, cuts, holds}
 use Rattle.entry.proofs.EntryCut.{Ends}

@@ -1,15 +1,17 @@
 -- The words of demand 3 as the laws have them, and both readings within the size limit.
 use Prim.Native.Nat.{ℕ, _≤_}
 use native.Mathlib.Omega.{arith}
-use mathlib.Core.Path.{_≡_}
-use mathlib.Core.Bool.{true}
+use mathlib.Core.Path.{_≡_, refl}
+use mathlib.Core.Bool.{Bool, true, false, cond}
 use mathlib.Core.List.{List, [], _∷_}
-use borrow.Author.Tests.{le-leb, eqb-true}
+use borrow.Author.Tests.{le-leb, leb-true, eqb-true}
+use lib.Dec.{leb}
 use lib.ListN.{length, getD}
 use Rattle.text.proofs.TestLaws.{absurd-bool}
+use Rattle.row.specs.declared.table.Row.{Row}
 use Rattle.row.specs.Strings.{isStart}
 use Rattle.entry.proofs.EntryCut.{Ends}
-use Rattle.ledger.specs.Plain.{accepted, part, plain, sizeLimit}
+use Rattle.ledger.specs.Plain.{accepted, denied, part, plain, sizeLimit}
 use Rattle.recovery.specs.Recovering.{recoverFrom, recovered}
 use Rattle.recovery.specs.Demand3.{startsTail, endsLine}
 use Rattle.recovery.proofs.BlockLaws.{ends-cons}
@@ -32,3 +34,12 @@ recovered-is s h = rw (le-leb (length s) 16777216 h)
 pub plain-part : (s : List ℕ) → length s ≤ sizeLimit → plain s ≡ part s
 unfolding plain
 plain-part s h = rw (le-leb (length s) 16777216 h)
+
+-- a larger ledger is refused
+pub plain-size : (s : List ℕ) (rs : List Row) → plain s ≡ accepted rs → length s ≤ sizeLimit
+unfolding plain
+plain-size s rs e = go (leb (length s) 16777216) refl e
+  where
+    go : (t : Bool) → leb (length s) 16777216 ≡ t → cond t (part s) (denied 1 0) ≡ accepted rs → length s ≤ 16777216
+    go true q e = leb-true (length s) 16777216 q
+    go false q e = absurd (let z : _≡_ {A = ℕ} 0 1 = cc in omega arith)

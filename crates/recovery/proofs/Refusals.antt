@@ -9,12 +9,11 @@ use lib.ListN.{length, drop-of-length-le, length-append}
 use lib.Seq.{take-all}
 use Rattle.text.specs.Permitted.{clean}
 use Rattle.text.proofs.TestLaws.{and-left, and-right}
-use Rattle.row.specs.declared.table.Row.{Row}
 use Rattle.row.specs.Row.{feeds}
 use Rattle.row.specs.Strings.{holds}
 use Rattle.ledger.specs.Plain.{accepted, denied, readFrom, partAt, part}
 use Rattle.recovery.specs.Recovering.{blockRows, recoverFrom}
-use Rattle.recovery.specs.Demand3.{startsTail, endsLine, cutApart, RefusedBlock, OneRefusalRow}
+use Rattle.recovery.specs.Demand3.{startsTail, endsLine, cutApart, OneRefusalRow}
 use Rattle.recovery.proofs.BlockLaws.{block-whole, recover-nil, recover-step, recover-bound, append-none, recover-append}
 use Rattle.recovery.proofs.CallLaws.{starts-is, ends-is, recovered-is, plain-part}
 

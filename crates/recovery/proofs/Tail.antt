@@ -1,17 +1,18 @@
 -- Demand 3, proved.
-use Prim.Native.Nat.{ℕ, zero, suc, _+_, _*_, _/_, _-_, _<_, _≤_}
+use Prim.Native.Nat.{ℕ, zero, suc, _+_, _/_, _<_, _≤_}
 use native.Mathlib.Nat.{zero-add}
 use native.Mathlib.Omega.{arith}
 use mathlib.Core.Path.{_≡_, refl, sym, ap, subst, _∙_}
-use mathlib.Core.Bool.{true}
+use mathlib.Core.Bool.{Bool, true, false, cond}
 use mathlib.Core.Logic.{⊎-elim}
 use mathlib.Core.List.{List, [], _∷_, _++_, append-nil, map-append}
 use borrow.Author.Tests.{le-leb}
-use lib.ListN.{length, getD, take, drop, drop-of-length-le, take-append-drop, length-append, length-take, length-drop}
+use lib.ListN.{length, take, drop, drop-of-length-le, take-append-drop, length-append, length-take, length-drop}
 use lib.Seq.{take-all, drop-append-seam}
 use Rattle.text.specs.Permitted.{clean}
 use Rattle.row.specs.declared.table.Row.{Row}
 use Rattle.row.specs.Row.{feeds, width}
+use Rattle.row.specs.Details.{spanned}
 use Rattle.row.proofs.PourLaws.{le-or-lt}
 use Rattle.entry.specs.Lost.{whole}
 use Rattle.entry.proofs.HeldLaws.{whole-append}
@@ -20,9 +21,9 @@ use Rattle.ledger.specs.Answers.{answer, left}
 use Rattle.ledger.proofs.MoveLaws.{moved-moved}
 use Rattle.ledger.proofs.WholeMoved.{whole-moved}
 use Rattle.recovery.specs.Recovering.{blockLength, blockRows, recoverFrom, recovered}
-use Rattle.recovery.specs.Demand3.{Given, thenTail, Demand3, Demand3Call}
+use Rattle.recovery.specs.Demand3.{Given, thenTail, Demand3, Demand3Call, Undamaged}
 use Rattle.recovery.proofs.BlockLaws.{block-le, block-some, block-boundary, recover-nil, recover-step, recover-append}
-use Rattle.recovery.proofs.CallLaws.{starts-is, ends-is, recovered-is, plain-part}
+use Rattle.recovery.proofs.CallLaws.{starts-is, ends-is, recovered-is, plain-part, plain-size}
 use Rattle.recovery.proofs.ReadingCut.{part-cut}
 
 -- ---- recovering reading of a text that plain reading accepts, none of whose strings holds a boundary, gives its plain rows
@@ -78,6 +79,22 @@ recover-plain zero a l [] rs h e w = rw (recover-nil zero a l, part-nil rs e)
 recover-plain zero a l (c ∷ s) rs h e w = absurd (omega arith)
 recover-plain (suc f) a l [] rs h e w = rw (recover-nil (suc f) a l, part-nil rs e)
 recover-plain (suc f) a l (c ∷ s) rs h e w = plain-step f a l (c ∷ s) rs (omega arith) h e w (λ n k z vs p q r. recover-plain f n k z vs p q r)
+
+-- ---- a ledger that is not damaged
+
+moved-none : (rs : List Row) → moved 0 0 rs ≡ rs
+unfolding move
+moved-none [] = refl
+moved-none (r ∷ rs) = rw (stays (spanned (r .kind)) (r .p), stays (spanned (r .kind)) (r .q), zero-add (r .start), zero-add (r .end), zero-add (r .line), moved-none rs)
+  where
+    stays : (t : Bool) (n : ℕ) → cond t (0 + n) n ≡ n
+    stays true n = zero-add n
+    stays false n = refl
+
+pub undamaged : Undamaged
+undamaged s rs e w =
+    let h = plain-size s rs e in
+    recovered-is s h ∙ ap accepted (recover-plain (length s) 0 0 s rs (omega arith) (sym (plain-part s h) ∙ e) w ∙ moved-none rs) ∙ sym e
 
 -- ---- what stands before the tail
 

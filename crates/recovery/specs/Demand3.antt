@@ -71,6 +71,11 @@ Demand3Call =
     (p t : List ℕ) (ts ps : List Row) (table : List ℕ) → Given p t ts → recovered p ≡ accepted ps
     → length (thenTail ps p ts) ≤ length table / width → Writes (p ++ t) table (thenTail ps p ts)
 
+-- ---- on a ledger that is not damaged, and none of whose strings holds such a line, recovering reading is plain reading
+
+abbrev pub Undamaged : Type 0
+Undamaged = (s : List ℕ) (rs : List Row) → plain s ≡ accepted rs → keptStrings s rs ≡ true → recovered s ≡ plain s
+
 -- ---- a refused block gives one refusal row
 
 -- the texts u and v are cut apart where one of them has no bytes, or a boundary stands between them

@@ -79,6 +79,8 @@ torn =
     ∷ ([], bytes "2024-01-01 *\n A:B\n  k: \"a\nb\"\n", (row 6 0 29 1 20240101 3 (pos 0) ∷ row 20 11 12 1 0 0 (pos 0) ∷ row 33 14 17 2 0 0 (pos 0) ∷ row 35 20 21 3 24 27 (pos 0) ∷ []), [], (row 6 0 18 1 20240101 2 (pos 0) ∷ row 20 11 12 1 0 0 (pos 0) ∷ row 33 14 17 2 0 0 (pos 0) ∷ row 1 18 26 3 0 0 (pos 0) ∷ row 1 26 29 4 0 0 (pos 0) ∷ []))
     ∷ ([], bytes "2024-01-01 event \"a\" \"b\nc\" x\n", (row 1 0 24 1 0 0 (pos 0) ∷ row 1 24 29 2 0 0 (pos 0) ∷ []), [], (row 90 0 24 1 4 0 (pos 0) ∷ row 1 24 29 2 0 0 (pos 0) ∷ []))
     ∷ ([], bytes "2024-01-01 event \"a\nb\" \"c\" x\n", (row 1 0 20 1 0 0 (pos 0) ∷ row 1 20 29 2 0 0 (pos 0) ∷ []), [], (row 90 0 20 1 4 0 (pos 0) ∷ row 1 20 29 2 0 0 (pos 0) ∷ []))
+    ∷ ([], bytes "2024-03-05 * \"Meter changed\nby the office\"\n  E:Cell  1 KWH\n", (row 6 0 59 1 20240305 4 (pos 0) ∷ row 20 11 12 1 0 0 (pos 0) ∷ row 22 14 41 1 0 0 (pos 0) ∷ row 33 45 51 3 0 0 (pos 0) ∷ row 26 53 54 3 55 58 (pos 1000000) ∷ []), [], (row 90 0 28 1 4 0 (pos 0) ∷ row 1 28 43 2 0 0 (pos 0) ∷ row 1 43 59 3 0 0 (pos 0) ∷ []))
+    ∷ ([], bytes "2024-01-31 * \"see\n2024-02-01 open A:B\n\"\n", (row 6 0 40 1 20240131 2 (pos 0) ∷ row 20 11 12 1 0 0 (pos 0) ∷ row 22 14 38 1 0 0 (pos 0) ∷ []), [], (row 90 0 18 1 4 0 (pos 0) ∷ row 9 18 38 2 20240201 1 (pos 0) ∷ row 25 34 37 2 0 0 (pos 0) ∷ row 1 38 40 3 0 0 (pos 0) ∷ []))
     ∷ []
 
 -- the bytes before the tail do not end in a line feed
