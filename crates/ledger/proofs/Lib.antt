@@ -1,5 +1,6 @@
 pub mod PlainLaws
 pub mod MoveLaws
+pub mod WholeMoved
 pub mod LaidRows
 pub mod ScanLaws
 pub mod ReadLaws

@@ -1,0 +1,3 @@
+pub mod Recovering
+pub mod Demand3
+pub mod Examples
