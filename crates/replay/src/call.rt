@@ -1,5 +1,4 @@
 // The calls, each with its answer as document 01's numbers.
-use access::content;
 use access::content::Content;
 use access::single;
 use access::single::Evaluated;
@@ -91,7 +90,7 @@ fn unescaped(text: &[u8], buffer: &mut [u8]) -> Reply
     ensures answer { λ r. ⌜ r ≡ contentReply (contentAnswer (now (text .entry)) (length (now (buffer .entry)))) ⌝ }
     ensures bytes { λ _. ⌜ now (buffer .exit) ≡ contentLeft (now (text .entry)) (now (buffer .entry)) ⌝ }
 {
-    let c = content::unescape(text, buffer);
+    let c = access::content::unescape(text, buffer);
     match c {
         Content::Bytes(n) => numbers(0, 0, n, 0),
         Content::Refusal(number, need) => numbers(number, 0, need, 0),
