@@ -17,13 +17,6 @@ use Rattle.text.proofs.TestLaws.{or-left, or-right}
 use Rattle.text.proofs.Steps.{run-on, run-ind, run-from, run-within, run-out}
 use Rattle.row.specs.Row.{feeds}
 
--- ---- one byte after the other
-
-module _ (s : List ℕ) (i : ℕ) where
-  feeds-byte : i < length s → feeds (drop i s) ≡ cond (eqb (getD s i 0) 10) 1 0 + feeds (drop (i + 1) s)
-  unfolding feeds
-  feeds-byte h = rw (drop-cons s i 0 h, add-one)
-
 -- ---- eight bytes at a time
 
 module _ (s : List ℕ) where
