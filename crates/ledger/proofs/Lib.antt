@@ -2,6 +2,8 @@ pub mod PlainLaws
 pub mod MoveLaws
 pub mod LaidRows
 pub mod ScanLaws
+pub mod PartLaws
+pub mod LinedRows
 pub mod ReadLaws
 pub mod Places
 pub mod ExpressionPlaces
