@@ -3,6 +3,8 @@ pub mod MoveLaws
 pub mod WholeMoved
 pub mod LaidRows
 pub mod ScanLaws
+pub mod PartLaws
+pub mod LinedRows
 pub mod ReadLaws
 pub mod Places
 pub mod ExpressionPlaces
