@@ -1,0 +1,19 @@
+use Rattle.lumbrisse.proofs.NumberLaws.{number-laws}
+use borrow.Author.Needs.{needs}
+use Rattle.lumbrisse.proofs.reply.reply_of.Statement.{statement}
+use Rattle.lumbrisse.proofs.reply.reply_of.Tie as tie
+
+enum-known-a : tie.Need-enum-known-a
+enum-known-a c = search (needs, number-laws)
+
+enum-known-a-2 : tie.Need-enum-known-a-2
+enum-known-a-2 c = search (needs, number-laws)
+
+returns : tie.Need-returns
+returns c = search (needs, number-laws)
+
+returns-2 : tie.Need-returns-2
+returns-2 c = search (needs, number-laws)
+
+pub reply-of-spec : {M : Type 1} → statement M
+reply-of-spec = tie.close (tie.spec enum-known-a enum-known-a-2 returns returns-2)

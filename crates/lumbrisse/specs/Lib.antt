@@ -1,0 +1,4 @@
+pub mod Numbers
+pub mod Asked
+pub mod Edges
+pub mod Easy
