@@ -5,6 +5,7 @@ use access::single;
 use access::span;
 use access::tables;
 use ledger::read;
+use recovery::recover;
 use reply::Evaluated;
 use reply::Part;
 use reply::Reply;
@@ -13,6 +14,7 @@ ghost use Prim.Native.Nat.{_/_};
 ghost use lib.ListN.{length, take, drop};
 ghost use Rattle.ledger.specs.Plain.{plain};
 ghost use Rattle.ledger.specs.Answers.{answer, left};
+ghost use Rattle.recovery.specs.Recovering.{recovered};
 ghost use Rattle.access.specs.Single.{evaluated};
 ghost use Rattle.access.specs.Contents.{contentAnswer, contentLeft};
 ghost use Rattle.access.specs.Tables.{inForce};
@@ -26,6 +28,16 @@ pub extern "C" fn lumbrisse_read(ledger: &[u8], table: &mut [u8]) -> Reply
     ensures rows { λ _. ⌜ now (table .exit) ≡ left (plain (now (ledger .entry))) (now (table .entry)) ⌝ }
 {
     let a = read::read(ledger, table);
+    reply::reply_of(a)
+}
+
+// Recovering reading: the rows' count, or a refusal.
+#[no_mangle]
+pub extern "C" fn lumbrisse_recover(ledger: &[u8], table: &mut [u8]) -> Reply
+    ensures answer { λ r. ⌜ r ≡ replyOf (answer (recovered (now (ledger .entry))) (length (now (table .entry)) / 32)) ⌝ }
+    ensures rows { λ _. ⌜ now (table .exit) ≡ left (recovered (now (ledger .entry))) (now (table .entry)) ⌝ }
+{
+    let a = recover::recover(ledger, table);
     reply::reply_of(a)
 }
 
