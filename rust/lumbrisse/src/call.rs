@@ -1,0 +1,203 @@
+//! The reader's calls, on lent buffers, and two that make their own table.
+
+use crate::{ffi, Refusal, ROW_BYTES};
+
+/// A ledger's bytes at the most; a longer one is refused with 1.
+///
+/// ```
+/// let long = vec![b'1'; lumbrisse::SIZE_LIMIT + 1];
+/// assert_eq!(lumbrisse::expression(&long).unwrap_err().number, 1);
+/// ```
+pub const SIZE_LIMIT: usize = 16_777_216;
+
+/// How many bytes of a ledger a first table has a row for; ledgers of readings need fewer rows.
+const BYTES_TO_A_ROW: usize = 8;
+
+/// The value of an expression, and where it stops.
+///
+/// ```
+/// use lumbrisse::Evaluated;
+///
+/// assert_eq!(lumbrisse::expression(b"2--3"), Ok(Evaluated { value: 5_000_000, stop: 4 }));
+/// ```
+#[derive(Clone, Copy, Debug, PartialEq, Eq, Hash)]
+pub struct Evaluated {
+    /// The value in millionths.
+    pub value: i64,
+    /// The place after the expression's last byte.
+    pub stop: usize,
+}
+
+fn counted(reply: ffi::Reply) -> Result<usize, Refusal> {
+    match reply.number {
+        0 => Ok(reply.count),
+        number => Err(Refusal {
+            number,
+            place: reply.place,
+            count: reply.count,
+        }),
+    }
+}
+
+/// Plain reading: writes the ledger's rows to the front of the table and gives their number.
+///
+/// Bytes of the table past the last row keep their content, and all of them do after a refusal: 1 to 8, or 9 with the need in
+/// rows.
+///
+/// ```
+/// let ledger = b"2024-01-31 * \"January\"\n";
+/// let mut table = [7; 96];
+/// assert_eq!(lumbrisse::read(ledger, &mut table), Ok(3));
+///
+/// let mut short = [7; 95];
+/// let refusal = lumbrisse::read(ledger, &mut short).unwrap_err();
+/// assert_eq!((refusal.number, refusal.count), (9, 3));
+/// assert_eq!(short, [7; 95]);
+/// ```
+pub fn read(ledger: &[u8], table: &mut [u8]) -> Result<usize, Refusal> {
+    counted(ffi::read(ledger, table))
+}
+
+/// Recovering reading: goes on behind damage.
+///
+/// The ledger is cut before each line that starts with a digit or small letter. A block that plain reading accepts gives its rows,
+/// with their places and lines in the whole ledger; any other gives one row of kind [`Kind::Refused`](crate::Kind::Refused). Only
+/// 1 and 9 refuse the call.
+///
+/// ```
+/// use lumbrisse::{Kind, Rows};
+///
+/// let ledger = b"2024-01-31 * \"open quote\n2024-02-29 * \"February\"\n";
+/// let mut table = [0; 128];
+/// let count = lumbrisse::recover(ledger, &mut table)?;
+/// let kinds: Vec<Kind> = Rows::new(&table).take(count).map(|row| row.kind).collect();
+/// assert_eq!(kinds, [Kind::Refused, Kind::Transaction, Kind::Flag, Kind::Narration]);
+/// # Ok::<(), lumbrisse::Refusal>(())
+/// ```
+pub fn recover(ledger: &[u8], table: &mut [u8]) -> Result<usize, Refusal> {
+    counted(ffi::recover(ledger, table))
+}
+
+/// The expression at the start of a text: its value, and where it stops.
+///
+/// Refused with 1, 2, 3, 11, or 6 to 8.
+///
+/// ```
+/// let found = lumbrisse::expression(b"(1,204.5 - 1200)/2 KWH")?;
+/// assert_eq!((found.value, found.stop), (2_250_000, 18));
+/// # Ok::<(), lumbrisse::Refusal>(())
+/// ```
+pub fn expression(text: &[u8]) -> Result<Evaluated, Refusal> {
+    let reply = ffi::expression(text);
+    match reply.number {
+        0 => Ok(Evaluated {
+            value: i64::from_ne_bytes(reply.bits.to_ne_bytes()),
+            stop: reply.place,
+        }),
+        number => Err(Refusal {
+            number,
+            place: reply.place,
+            count: 0,
+        }),
+    }
+}
+
+/// String content without its escapes: writes it to the front of the buffer and gives its length.
+///
+/// Content is what stands between the quotes of a string. Refused with 10 where it is not valid, then with 9 and the need in
+/// bytes; the buffer then keeps its bytes.
+///
+/// ```
+/// let mut buffer = [b'.'; 8];
+/// assert_eq!(lumbrisse::content(br#"say \"x\""#, &mut buffer), Ok(7));
+/// assert_eq!(&buffer, br#"say "x"."#);
+/// // An escape needs an ordinary byte directly before it.
+/// assert_eq!(lumbrisse::content(br#"\"x"#, &mut buffer).unwrap_err().number, 10);
+/// ```
+pub fn content(content: &[u8], buffer: &mut [u8]) -> Result<usize, Refusal> {
+    counted(ffi::content(content, buffer))
+}
+
+/// Whether a tag is in force after the first `k` rows of a table: whether `pushtag` was the last of `pushtag` and `poptag` to name it.
+///
+/// Refused with 10 where the table has no room for `k` rows.
+///
+/// ```
+/// let ledger = b"pushtag #2024-01\n; readings\npoptag #2024-01\n";
+/// let table = lumbrisse::read_to_vec(ledger)?;
+/// assert_eq!(lumbrisse::tag_in_force(ledger, &table, 4, b"2024-01"), Ok(true));
+/// assert_eq!(lumbrisse::tag_in_force(ledger, &table, 6, b"2024-01"), Ok(false));
+/// assert_eq!(lumbrisse::tag_in_force(ledger, &table, 9, b"2024-01").unwrap_err().number, 10);
+/// # Ok::<(), lumbrisse::Refusal>(())
+/// ```
+pub fn tag_in_force(ledger: &[u8], table: &[u8], k: usize, tag: &[u8]) -> Result<bool, Refusal> {
+    counted(ffi::tag_in_force(ledger, table, k, tag)).map(|count| count == 1)
+}
+
+/// The text of a span: a part of the ledger itself. Empty, at the ledger's start, where start is over end or end over the length.
+///
+/// ```
+/// let ledger = b"2024-01-31 open Meters:Flat-1\n";
+/// assert_eq!(lumbrisse::span_text(ledger, 16, 29), b"Meters:Flat-1");
+/// assert_eq!(lumbrisse::span_text(ledger, 29, 16), b"");
+/// assert_eq!(lumbrisse::span_text(ledger, 0, 31), b"");
+/// ```
+pub fn span_text(ledger: &[u8], start: usize, end: usize) -> &[u8] {
+    let part = ffi::span(ledger, start, end);
+    let rest = ledger.get(part.start..).unwrap_or_default();
+    rest.get(..part.length).unwrap_or_default()
+}
+
+/// Plain reading into a table of its own, which holds the ledger's rows and nothing else.
+///
+/// Refused as [`read`] is; with 9 only where the memory for the need cannot be had.
+///
+/// ```
+/// let table = lumbrisse::read_to_vec(b"; one\n; two\n")?;
+/// assert_eq!(table.len(), 2 * lumbrisse::ROW_BYTES);
+/// # Ok::<(), lumbrisse::Refusal>(())
+/// ```
+pub fn read_to_vec(ledger: &[u8]) -> Result<Vec<u8>, Refusal> {
+    grown(ledger, read)
+}
+
+/// Recovering reading into a table of its own, as [`read_to_vec`].
+///
+/// ```
+/// let table = lumbrisse::recover_to_vec(b"2024-01-31\n; kept with what stands above it\n")?;
+/// assert_eq!(table.len(), lumbrisse::ROW_BYTES);
+/// # Ok::<(), lumbrisse::Refusal>(())
+/// ```
+pub fn recover_to_vec(ledger: &[u8]) -> Result<Vec<u8>, Refusal> {
+    grown(ledger, recover)
+}
+
+/// Calls with a table that fits most ledgers, and where it is too short once more with one of the need.
+fn grown(
+    ledger: &[u8],
+    call: fn(&[u8], &mut [u8]) -> Result<usize, Refusal>,
+) -> Result<Vec<u8>, Refusal> {
+    let mut table = Vec::new();
+    let guess = ledger.len().min(SIZE_LIMIT) / BYTES_TO_A_ROW;
+    // A guess that no memory can be had for leaves the table empty, and the first call then says the need.
+    let _ = lengthen(&mut table, guess);
+    let mut answer = call(ledger, &mut table);
+    if let Err(refusal) = answer {
+        if refusal.number == Refusal::TOO_SHORT {
+            lengthen(&mut table, refusal.count).ok_or(refusal)?;
+            answer = call(ledger, &mut table);
+        }
+    }
+    table.truncate(answer?.saturating_mul(ROW_BYTES));
+    Ok(table)
+}
+
+/// Makes room for so many rows, or leaves the table where the memory cannot be had.
+fn lengthen(table: &mut Vec<u8>, rows: usize) -> Option<()> {
+    let size = rows.checked_mul(ROW_BYTES)?;
+    table
+        .try_reserve_exact(size.saturating_sub(table.len()))
+        .ok()?;
+    table.resize(size, 0);
+    Some(())
+}

@@ -1,0 +1,100 @@
+//! What `--help` writes.
+
+use super::args::Verb;
+
+pub const VERSION: &str = concat!("lumbrisse ", env!("CARGO_PKG_VERSION"), "\n");
+
+/// The help on everything, or on one command.
+pub fn of(topic: Option<Verb>) -> &'static str {
+    match topic {
+        None => ALL,
+        Some(Verb::Read) => READ,
+        Some(Verb::Recover) => RECOVER,
+        Some(Verb::Eval) => EVAL,
+    }
+}
+
+const ALL: &str = "\
+lumbrisse: a proved reader of Beancount ledgers
+
+Usage:
+  lumbrisse read FILE         read a ledger: all of it, or the first refusal in it
+  lumbrisse recover FILE      read on behind damage, and name every refused block
+  lumbrisse eval EXPRESSION   the value of an expression, to the millionth
+  lumbrisse help COMMAND      more on a command
+
+A FILE or EXPRESSION of - is standard input.
+
+Options:
+  --rows      read, recover: the rows themselves, one to a line
+  --json      the answer as JSON
+  -h, --help  this text; after a command, more on it
+  -V, --version
+
+Start here:
+  lumbrisse read examples/clean.beancount         a ledger that is whole
+  lumbrisse read examples/building.beancount      the same with an open quote: refused
+  lumbrisse recover examples/building.beancount   the damage named, the rest kept
+
+Exit status:
+  0  accepted
+  1  refused, or a block of it refused
+  2  wrong words, or a file that cannot be read
+";
+
+const READ: &str = "\
+lumbrisse read [--rows | --json] FILE
+
+Plain reading. The ledger is accepted as a whole, or refused with a number from 1 to 8 and a place.
+
+Accepted, it says how many entries of each kind there are, and the first and last date.
+Refused, it says on standard error what is missing, with the line and a mark under the place:
+
+  FILE:12:1: refusal 4: a required part of this entry is missing
+     12 | 2024-03-31 * \"open quote
+        | ^
+
+Refusal 4 stands at the start of its entry. The usual causes: a quote that is not closed, an account
+of one part, a line with something left over.
+
+With --rows, a line for each row: kind start end line p q value
+  1 to 13   an entry; p is its date, q the number of detail rows after it
+  20 to 37  a detail: flag, payee, narration, tag, account, amount, posting ..
+Places count bytes from 0, lines from 1; a value counts millionths.
+
+With --json, one object: \"accepted\", then \"rows\" or \"refusal\".
+";
+
+const RECOVER: &str = "\
+lumbrisse recover [--rows | --json] FILE
+
+Recovering reading. The ledger is cut before each line that starts with a digit or small letter, and
+each block is read by itself. So one open quote costs its own block and cannot fold the next reading
+into a narration.
+
+Each refused block is named by its lines, with what is wrong in it; then come the number of entries
+that were kept, by kind, and the first and last date of these.
+
+With --rows, the rows of all kept blocks, and for each refused block a row of kind 90: its span and
+line, p the refusal's number, q the refusal's place.
+
+With --json, one object: \"kept\", \"refused\" and \"rows\".
+
+The exit status is 1 where any block was refused.
+";
+
+const EVAL: &str = "\
+lumbrisse eval [--json] EXPRESSION
+
+One expression, as a ledger has it: + - * / and groups, with points and commas in numbers. Values are
+exact, in whole millionths, up to 999,999,999.999999; anything else is refused, never rounded.
+
+  lumbrisse eval '(1,204.5 - 1200)/2'     2.25
+  lumbrisse eval 1/3                      refusal 7: not a whole number of millionths
+  lumbrisse eval '-(2)*3'                 -2: a negated group ends its expression
+
+Where the expression ends before the text does, what was not read is said on standard error.
+An expression that starts with -- goes after a word -- of its own.
+
+With --json, one object: \"value\", \"millionths\" and \"stop\", the place after its last byte.
+";

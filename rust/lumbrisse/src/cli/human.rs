@@ -1,0 +1,122 @@
+//! Answers for a person.
+
+use std::io::{self, Write};
+
+use lumbrisse::{Kind, Refusal};
+
+use super::paint::Paint;
+use super::place;
+use super::source::Source;
+use super::summary::{refused_blocks, Summary};
+
+/// A ledger that plain reading accepted.
+pub fn accepted(
+    out: &mut impl Write,
+    paint: Paint,
+    source: &Source,
+    table: &[u8],
+) -> io::Result<()> {
+    let summary = Summary::of(table);
+    let name = paint.bold(&source.name);
+    let verdict = paint.green("accepted");
+    writeln!(out, "{name}: {verdict}, {}", entries(&summary))?;
+    counts(out, &summary)
+}
+
+/// A ledger that recovering reading went through: each refused block, then what was kept.
+pub fn recovered(
+    out: &mut impl Write,
+    paint: Paint,
+    source: &Source,
+    table: &[u8],
+) -> io::Result<()> {
+    let mut blocks: usize = 0;
+    for (row, refusal) in refused_blocks(table) {
+        blocks = blocks.saturating_add(1);
+        refused(out, paint, source, refusal)?;
+        let first = row.line as usize;
+        let last = place::last_line_of(row.text(&source.bytes), first);
+        writeln!(out, "  refused block: {}\n", lines(first, last))?;
+    }
+    let summary = Summary::of(table);
+    let name = paint.bold(&source.name);
+    let verdict = match blocks {
+        0 => paint.green("nothing refused"),
+        1 => paint.red("1 block refused"),
+        _ => paint.red(&format!("{blocks} blocks refused")),
+    };
+    writeln!(out, "{name}: {verdict}, kept {}", entries(&summary))?;
+    counts(out, &summary)
+}
+
+/// A refusal: where, why, and the line with a mark under the place.
+pub fn refused(
+    out: &mut impl Write,
+    paint: Paint,
+    source: &Source,
+    refusal: Refusal,
+) -> io::Result<()> {
+    let at = place::of(&source.bytes, refusal.place);
+    let place = paint.bold(&format!("{}:{}:{}", source.name, at.line, at.column));
+    let number = paint.red(&format!("refusal {}", refusal.number));
+    let meaning = refusal.meaning();
+    let detail = detail(source, refusal);
+    writeln!(out, "{place}: {number}: {meaning}{detail}")?;
+    if refusal.has_place() {
+        let excerpt = place::excerpt(&source.bytes, refusal.place);
+        let mark = paint.red("^");
+        writeln!(out, "{:>5} | {}", at.line, excerpt.text)?;
+        writeln!(out, "{:>5} | {:2$}{mark}", "", "", excerpt.before)?;
+    }
+    Ok(())
+}
+
+/// What an expression left of its text, where that is more than blanks.
+pub fn unread(err: &mut impl Write, source: &Source, stop: usize) {
+    let rest = source.bytes.get(stop..).unwrap_or_default();
+    let rest = rest.trim_ascii();
+    if !rest.is_empty() {
+        let excerpt = place::excerpt(rest, 0);
+        let _ = writeln!(err, "stops at byte {stop}; not read: {}", excerpt.text);
+    }
+}
+
+/// What a refusal says beside its number's meaning.
+fn detail(source: &Source, refusal: Refusal) -> String {
+    match (refusal.number, source.bytes.get(refusal.place)) {
+        (2, Some(byte)) => format!(" (this is byte 0x{byte:02X})"),
+        (Refusal::TOO_SHORT, _) => format!(" (no memory for {} rows)", refusal.count),
+        _ => String::new(),
+    }
+}
+
+fn entries(summary: &Summary) -> String {
+    let count = match summary.entries() {
+        1 => "1 entry".to_string(),
+        count => format!("{count} entries"),
+    };
+    match summary.dates {
+        None => count,
+        Some((first, last)) if first == last => format!("{count}, dated {first}"),
+        Some((first, last)) => format!("{count}, dated {first} to {last}"),
+    }
+}
+
+fn counts(out: &mut impl Write, summary: &Summary) -> io::Result<()> {
+    for (kind, count) in summary.counts() {
+        let note = match kind {
+            Kind::Blank => " (lines that no other form reads: empty, comments, and whatever else)",
+            _ => "",
+        };
+        writeln!(out, "{count:>8} {kind}{note}")?;
+    }
+    Ok(())
+}
+
+fn lines(first: usize, last: usize) -> String {
+    if first == last {
+        format!("line {first}")
+    } else {
+        format!("lines {first} to {last}")
+    }
+}

@@ -1,0 +1,146 @@
+//! Answers as JSON: one object, on one line but for its rows.
+
+use std::fmt::Write as _;
+use std::io::{self, Write};
+
+use lumbrisse::{Evaluated, Millionths, Refusal, Row, Rows};
+
+use super::place;
+use super::source::Source;
+use super::summary::{refused_blocks, Summary};
+
+/// A ledger that plain reading accepted.
+pub fn accepted(out: &mut impl Write, source: &Source, table: &[u8]) -> io::Result<()> {
+    let file = quoted(source.name.as_bytes());
+    write!(out, "{{\"file\":{file},\"accepted\":true,")?;
+    rows(out, source, table)?;
+    writeln!(out, "}}")
+}
+
+/// A ledger that recovering reading went through.
+pub fn recovered(out: &mut impl Write, source: &Source, table: &[u8]) -> io::Result<()> {
+    let file = quoted(source.name.as_bytes());
+    let kept = Summary::of(table).entries();
+    write!(out, "{{\"file\":{file},\"kept\":{kept},\"refused\":[")?;
+    for (number, (row, refusal)) in refused_blocks(table).enumerate() {
+        let last = place::last_line_of(row.text(&source.bytes), row.line as usize);
+        separate(out, number)?;
+        write!(
+            out,
+            "{{\"first_line\":{},\"last_line\":{last},\"refusal\":{}}}",
+            row.line,
+            refusal_object(source, refusal)
+        )?;
+    }
+    write!(out, "],")?;
+    rows(out, source, table)?;
+    writeln!(out, "}}")
+}
+
+/// A call that was refused as a whole.
+pub fn refused(out: &mut impl Write, source: &Source, refusal: Refusal) -> io::Result<()> {
+    let file = quoted(source.name.as_bytes());
+    let refusal = refusal_object(source, refusal);
+    writeln!(
+        out,
+        "{{\"file\":{file},\"accepted\":false,\"refusal\":{refusal}}}"
+    )
+}
+
+/// The value of an expression.
+pub fn evaluated(out: &mut impl Write, source: &Source, found: Evaluated) -> io::Result<()> {
+    let text = quoted(&source.bytes);
+    let value = Millionths(found.value);
+    writeln!(
+        out,
+        "{{\"expression\":{text},\"accepted\":true,\"value\":\"{value}\",\"millionths\":{},\"stop\":{}}}",
+        found.value, found.stop
+    )
+}
+
+fn refusal_object(source: &Source, refusal: Refusal) -> String {
+    let at = place::of(&source.bytes, refusal.place);
+    format!(
+        "{{\"number\":{},\"meaning\":{},\"place\":{},\"line\":{},\"column\":{},\"count\":{}}}",
+        refusal.number,
+        quoted(refusal.meaning().as_bytes()),
+        refusal.place,
+        at.line,
+        at.column,
+        refusal.count
+    )
+}
+
+fn rows(out: &mut impl Write, source: &Source, table: &[u8]) -> io::Result<()> {
+    write!(out, "\"rows\":[")?;
+    for (number, row) in Rows::new(table).enumerate() {
+        separate(out, number)?;
+        write!(out, "\n{}", row_object(source, &row))?;
+    }
+    write!(out, "]")
+}
+
+/// A row's fields; a detail has its texts beside them.
+fn row_object(source: &Source, row: &Row) -> String {
+    let mut object = format!(
+        "{{\"kind\":{},\"name\":{},\"start\":{},\"end\":{},\"line\":{},\"p\":{},\"q\":{},\"value\":{}",
+        row.kind.number(),
+        quoted(row.kind.name().as_bytes()),
+        row.start,
+        row.end,
+        row.line,
+        row.p,
+        row.q,
+        row.value
+    );
+    let ledger = &source.bytes;
+    let texts = [
+        ("text", row.kind.is_detail().then(|| row.text(ledger))),
+        ("currency", row.currency(ledger)),
+        ("metadata", row.metadata(ledger)),
+    ];
+    for (name, text) in texts {
+        if let Some(text) = text {
+            let _ = write!(object, ",\"{name}\":{}", quoted(text));
+        }
+    }
+    object.push('}');
+    object
+}
+
+fn separate(out: &mut impl Write, number: usize) -> io::Result<()> {
+    match number {
+        0 => Ok(()),
+        _ => write!(out, ","),
+    }
+}
+
+/// A JSON string. Bytes that are no text become the mark for that.
+fn quoted(bytes: &[u8]) -> String {
+    let mut string = String::from('"');
+    for c in String::from_utf8_lossy(bytes).chars() {
+        match c {
+            '"' | '\\' => {
+                string.push('\\');
+                string.push(c);
+            }
+            _ if c.is_control() => {
+                let _ = write!(string, "\\u{:04x}", u32::from(c));
+            }
+            _ => string.push(c),
+        }
+    }
+    string.push('"');
+    string
+}
+
+#[cfg(test)]
+mod tests {
+    use super::quoted;
+
+    #[test]
+    fn strings_are_escaped() {
+        assert_eq!(quoted(b"a\"b\\c\n"), r#""a\"b\\c\u000a""#);
+        assert_eq!(quoted(b"\x7f\xff"), "\"\\u007f\u{fffd}\"");
+    }
+}

@@ -1,0 +1,153 @@
+//! The command line: what is asked for, the call that answers it, and how the answer is written.
+
+mod args;
+mod help;
+mod human;
+mod json;
+mod paint;
+mod place;
+mod rows;
+mod shown;
+mod source;
+mod summary;
+
+use std::ffi::OsString;
+use std::io::{self, BufWriter, ErrorKind, Write};
+use std::process::ExitCode;
+
+use args::{Form, Job, Request, Verb};
+use paint::Paint;
+use source::Source;
+
+/// How a run ends. A person reads it in words; another program by the exit status.
+#[derive(Clone, Copy, PartialEq, Eq)]
+enum Status {
+    /// All was accepted.
+    Accepted = 0,
+    /// The call, or a block of the ledger, was refused.
+    Refused = 1,
+    /// The words were wrong, or a file could not be read or written.
+    Trouble = 2,
+}
+
+/// Runs the command that the words after the program's name ask for.
+pub fn run(words: impl Iterator<Item = OsString>) -> ExitCode {
+    let status = match args::parse(words) {
+        Ok(Request::Run(job)) => run_job(&job),
+        Ok(Request::Help(topic)) => said(help::of(topic)),
+        Ok(Request::Version) => said(help::VERSION),
+        Err(usage) => {
+            complain(&usage.0);
+            complain("`lumbrisse --help` says what it takes.");
+            Status::Trouble
+        }
+    };
+    ExitCode::from(status as u8)
+}
+
+fn said(text: &str) -> Status {
+    let mut out = io::stdout();
+    let written = out.write_all(text.as_bytes()).and_then(|()| out.flush());
+    ended(written, Status::Accepted)
+}
+
+/// A line to standard error. There is nobody left to tell where that fails.
+fn complain(text: &str) {
+    let _ = writeln!(io::stderr(), "lumbrisse: {text}");
+}
+
+/// The status of a run whose answer was, or could not be, written. A reader that went away has seen enough.
+fn ended(written: io::Result<()>, status: Status) -> Status {
+    match written {
+        Err(error) if error.kind() != ErrorKind::BrokenPipe => {
+            complain(&format!("cannot write the answer: {error}"));
+            Status::Trouble
+        }
+        _ => status,
+    }
+}
+
+fn run_job(job: &Job) -> Status {
+    let source = match source::load(&job.input) {
+        Ok(source) => source,
+        Err(message) => {
+            complain(&message);
+            return Status::Trouble;
+        }
+    };
+    let mut out = BufWriter::new(io::stdout().lock());
+    let (written, status) = match job.verb {
+        Verb::Read => read(&mut out, job.form, &source),
+        Verb::Recover => recover(&mut out, job.form, &source),
+        Verb::Eval => eval(&mut out, job.form, &source),
+    };
+    ended(written.and_then(|()| out.flush()), status)
+}
+
+/// What was written, and how the run ends.
+type Outcome = (io::Result<()>, Status);
+
+fn read(out: &mut impl Write, form: Form, source: &Source) -> Outcome {
+    match lumbrisse::read_to_vec(&source.bytes) {
+        Ok(table) => {
+            let written = match form {
+                Form::Person => human::accepted(out, Paint::stdout(), source, &table),
+                Form::Rows => rows::list(out, &table),
+                Form::Json => json::accepted(out, source, &table),
+            };
+            (written, Status::Accepted)
+        }
+        Err(refusal) => refused(out, form, source, refusal),
+    }
+}
+
+fn recover(out: &mut impl Write, form: Form, source: &Source) -> Outcome {
+    match lumbrisse::recover_to_vec(&source.bytes) {
+        Ok(table) => {
+            let written = match form {
+                Form::Person => human::recovered(out, Paint::stdout(), source, &table),
+                Form::Rows => rows::list(out, &table),
+                Form::Json => json::recovered(out, source, &table),
+            };
+            let status = match summary::refused_blocks(&table).next() {
+                None => Status::Accepted,
+                Some(_) => Status::Refused,
+            };
+            (written, status)
+        }
+        Err(refusal) => refused(out, form, source, refusal),
+    }
+}
+
+fn eval(out: &mut impl Write, form: Form, source: &Source) -> Outcome {
+    match lumbrisse::expression(&source.bytes) {
+        Ok(found) => {
+            let written = match form {
+                Form::Json => json::evaluated(out, source, found),
+                Form::Person | Form::Rows => {
+                    human::unread(&mut io::stderr(), source, found.stop);
+                    writeln!(out, "{}", lumbrisse::Millionths(found.value))
+                }
+            };
+            (written, Status::Accepted)
+        }
+        Err(refusal) => refused(out, form, source, refusal),
+    }
+}
+
+/// A call that was refused as a whole: for a program on standard output, for a person on standard error.
+fn refused(
+    out: &mut impl Write,
+    form: Form,
+    source: &Source,
+    refusal: lumbrisse::Refusal,
+) -> Outcome {
+    let written = match form {
+        Form::Json => json::refused(out, source, refusal),
+        Form::Person | Form::Rows => {
+            let _ = human::refused(&mut io::stderr(), Paint::stderr(), source, refusal);
+            Ok(())
+        }
+    };
+    (written, Status::Refused)
+}

@@ -1,0 +1,133 @@
+//! The archive's six functions, and the only unsafe code: each is called with the pointer and length of a live slice.
+#![allow(unsafe_code)]
+
+/// The answer of a call that reads or writes: number 0 is accepted.
+#[repr(C)]
+#[derive(Clone, Copy)]
+pub struct Reply {
+    pub number: usize,
+    pub place: usize,
+    pub count: usize,
+}
+
+/// The answer of a single expression: number 0 is accepted, `place` is then where it stopped.
+#[repr(C)]
+#[derive(Clone, Copy)]
+pub struct Evaluated {
+    pub number: usize,
+    pub place: usize,
+    /// The value in millionths, in two's complement.
+    pub bits: u64,
+}
+
+/// A part of a lent text.
+#[repr(C)]
+#[derive(Clone, Copy)]
+pub struct Part {
+    pub start: usize,
+    pub length: usize,
+}
+
+// A slice is passed as its pointer and its length.
+mod archive {
+    use super::{Evaluated, Part, Reply};
+
+    extern "C" {
+        pub fn lumbrisse_read(
+            ledger: *const u8,
+            ledger_length: usize,
+            table: *mut u8,
+            table_length: usize,
+        ) -> Reply;
+        pub fn lumbrisse_recover(
+            ledger: *const u8,
+            ledger_length: usize,
+            table: *mut u8,
+            table_length: usize,
+        ) -> Reply;
+        pub fn lumbrisse_expression(text: *const u8, text_length: usize) -> Evaluated;
+        pub fn lumbrisse_content(
+            content: *const u8,
+            content_length: usize,
+            buffer: *mut u8,
+            buffer_length: usize,
+        ) -> Reply;
+        pub fn lumbrisse_tag_in_force(
+            ledger: *const u8,
+            ledger_length: usize,
+            table: *const u8,
+            table_length: usize,
+            k: usize,
+            tag: *const u8,
+            tag_length: usize,
+        ) -> Reply;
+        pub fn lumbrisse_span(
+            ledger: *const u8,
+            ledger_length: usize,
+            start: usize,
+            end: usize,
+        ) -> Part;
+    }
+}
+
+pub fn read(ledger: &[u8], table: &mut [u8]) -> Reply {
+    // SAFETY: both slices live through the call and do not overlap, `table` being borrowed mutably. The function is proved for
+    // any bytes and lengths: it reads within `ledger`, writes within `table`, and keeps neither pointer.
+    unsafe {
+        archive::lumbrisse_read(
+            ledger.as_ptr(),
+            ledger.len(),
+            table.as_mut_ptr(),
+            table.len(),
+        )
+    }
+}
+
+pub fn recover(ledger: &[u8], table: &mut [u8]) -> Reply {
+    // SAFETY: as for `read`.
+    unsafe {
+        archive::lumbrisse_recover(
+            ledger.as_ptr(),
+            ledger.len(),
+            table.as_mut_ptr(),
+            table.len(),
+        )
+    }
+}
+
+pub fn expression(text: &[u8]) -> Evaluated {
+    // SAFETY: the slice lives through the call. The function is proved for any bytes: it reads within `text` and keeps no pointer.
+    unsafe { archive::lumbrisse_expression(text.as_ptr(), text.len()) }
+}
+
+pub fn content(content: &[u8], buffer: &mut [u8]) -> Reply {
+    // SAFETY: as for `read`, with `buffer` in the table's place.
+    unsafe {
+        archive::lumbrisse_content(
+            content.as_ptr(),
+            content.len(),
+            buffer.as_mut_ptr(),
+            buffer.len(),
+        )
+    }
+}
+
+pub fn tag_in_force(ledger: &[u8], table: &[u8], k: usize, tag: &[u8]) -> Reply {
+    // SAFETY: the slices live through the call and are only read, within their lengths, whatever `k` is. No pointer is kept.
+    unsafe {
+        archive::lumbrisse_tag_in_force(
+            ledger.as_ptr(),
+            ledger.len(),
+            table.as_ptr(),
+            table.len(),
+            k,
+            tag.as_ptr(),
+            tag.len(),
+        )
+    }
+}
+
+pub fn span(ledger: &[u8], start: usize, end: usize) -> Part {
+    // SAFETY: the slice lives through the call and is only read, whatever `start` and `end` are. No pointer is kept.
+    unsafe { archive::lumbrisse_span(ledger.as_ptr(), ledger.len(), start, end) }
+}

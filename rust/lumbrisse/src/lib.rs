@@ -1,0 +1,60 @@
+//! Reads Beancount ledgers with a reader whose every answer is proved.
+//!
+//! The reader is written in Rattle and proved against the rules of document 01; this crate links its archive and gives its calls
+//! Rust types. Any bytes at all get rows or a [`Refusal`] with its number and place; nothing panics, and a refused call leaves
+//! every byte of the buffers that it was lent.
+//!
+//! | call | gives |
+//! |---|---|
+//! | [`read`] | the rows of a ledger, or the first refusal in it |
+//! | [`recover`] | the rows of every block that reads, and a row of kind [`Kind::Refused`] for each block that does not |
+//! | [`expression`] | the value of one expression, and where it stops |
+//! | [`content`] | string content without its escapes |
+//! | [`tag_in_force`] | whether a tag is in force after some rows |
+//! | [`span_text`] | the text of a span: a part of the ledger itself |
+//!
+//! These lend buffers and allocate nothing. [`read_to_vec`] and [`recover_to_vec`] make a table that is large enough. [`Rows`] goes
+//! over a table row by row.
+//!
+//! ```
+//! use lumbrisse::{Kind, Millionths, Rows};
+//!
+//! let ledger = b"2024-01-31 * \"January\"\n  Meters:Flat-1  12.5 KWH\n  Cellar:Main\n";
+//! let table = lumbrisse::read_to_vec(ledger)?;
+//! for row in Rows::new(&table) {
+//!     if row.kind == Kind::Amount {
+//!         assert_eq!(Millionths(row.value).to_string(), "12.5");
+//!         assert_eq!(row.currency(ledger), Some(&b"KWH"[..]));
+//!     }
+//! }
+//! # Ok::<(), lumbrisse::Refusal>(())
+//! ```
+
+#![deny(unsafe_code, missing_docs)]
+#![deny(
+    clippy::unwrap_used,
+    clippy::expect_used,
+    clippy::panic,
+    clippy::indexing_slicing,
+    clippy::arithmetic_side_effects
+)]
+
+mod call;
+mod date;
+mod ffi;
+mod kind;
+mod millionths;
+mod refusal;
+mod row;
+mod table;
+
+pub use call::{
+    content, expression, read, read_to_vec, recover, recover_to_vec, span_text, tag_in_force,
+    Evaluated, SIZE_LIMIT,
+};
+pub use date::Date;
+pub use kind::Kind;
+pub use millionths::Millionths;
+pub use refusal::Refusal;
+pub use row::Row;
+pub use table::{Rows, ROW_BYTES};

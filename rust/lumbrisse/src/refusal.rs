@@ -1,0 +1,88 @@
+//! A refusal: its number, its place, its count, and what the number means.
+
+use std::error::Error;
+use std::fmt;
+
+/// Why a call was refused, and where.
+///
+/// ```
+/// let refusal = lumbrisse::expression(b"12/0").unwrap_err();
+/// assert_eq!((refusal.number, refusal.place, refusal.count), (8, 0, 0));
+/// assert_eq!(refusal.meaning(), "a value is divided by zero");
+/// assert_eq!(refusal.to_string(), "refusal 8 at byte 0: a value is divided by zero");
+/// ```
+#[derive(Clone, Copy, Debug, PartialEq, Eq, Hash)]
+pub struct Refusal {
+    /// The number: 1 to 11.
+    pub number: usize,
+    /// The place, in bytes from the start of the lent text.
+    pub place: usize,
+    /// The need under [`Refusal::TOO_SHORT`], in rows for a row table and else in bytes; 0 under any other number.
+    pub count: usize,
+}
+
+impl Refusal {
+    /// The number of a table or buffer that is too short.
+    ///
+    /// ```
+    /// use lumbrisse::Refusal;
+    ///
+    /// let refusal = lumbrisse::content(b"flat", &mut [0; 3]).unwrap_err();
+    /// assert_eq!(refusal, Refusal { number: Refusal::TOO_SHORT, place: 0, count: 4 });
+    /// ```
+    pub const TOO_SHORT: usize = 9;
+
+    /// What the number means, in plain words.
+    ///
+    /// ```
+    /// let refusal = lumbrisse::content(b"a\\", &mut []).unwrap_err();
+    /// assert_eq!(refusal.meaning(), "the row number or the string content is not valid");
+    /// ```
+    pub fn meaning(&self) -> &'static str {
+        match self.number {
+            1 => "the text is longer than 16,777,216 bytes",
+            2 => "this byte is not permitted: only tab, line feed, space to ~, and carriage return before line feed are",
+            3 => "a group is opened inside 32 open ones",
+            4 => "a required part of this entry is missing",
+            5 => "the last line has no line feed, and no entry reads it",
+            6 => "a value is larger than 999,999,999.999999",
+            7 => "a value is not a whole number of millionths",
+            8 => "a value is divided by zero",
+            9 => "the table or buffer is too short",
+            10 => "the row number or the string content is not valid",
+            11 => "no expression stands at the start",
+            _ => "a number that this program does not know",
+        }
+    }
+
+    /// Whether the place says more than that the call as a whole was refused.
+    ///
+    /// ```
+    /// let mut table = [0; 32];
+    /// assert!(lumbrisse::read(b"2024-01-31\n", &mut table).unwrap_err().has_place());
+    /// assert!(!lumbrisse::read(b"\n", &mut []).unwrap_err().has_place());
+    /// ```
+    pub fn has_place(&self) -> bool {
+        !matches!(self.number, 1 | 9 | 10)
+    }
+}
+
+impl fmt::Display for Refusal {
+    fn fmt(&self, f: &mut fmt::Formatter<'_>) -> fmt::Result {
+        write!(f, "refusal {}", self.number)?;
+        if self.has_place() {
+            write!(f, " at byte {}", self.place)?;
+        }
+        write!(f, ": {}", self.meaning())?;
+        if self.number == Self::TOO_SHORT {
+            write!(
+                f,
+                "; the need is {} (rows for a row table, else bytes)",
+                self.count
+            )?;
+        }
+        Ok(())
+    }
+}
+
+impl Error for Refusal {}

@@ -1,0 +1,121 @@
+//! Any bytes at all get rows or a numbered refusal: texts made up at random, on the real archive.
+
+use lumbrisse::{
+    content, expression, read, recover, span_text, tag_in_force, Refusal, Rows, ROW_BYTES,
+};
+
+/// A small generator of numbers, so that a failure can be had again.
+struct Dice(u64);
+
+impl Dice {
+    fn below(&mut self, limit: usize) -> usize {
+        self.0 ^= self.0 << 13;
+        self.0 ^= self.0 >> 7;
+        self.0 ^= self.0 << 17;
+        (self.0 % limit as u64) as usize
+    }
+
+    /// A text of pieces that ledgers are made of, and of bytes that they are not.
+    fn text(&mut self) -> Vec<u8> {
+        let pieces: [&[u8]; 32] = [
+            b"2024-01-31 ",
+            b"*",
+            b"!",
+            b"txn",
+            b"\n",
+            b"\r\n",
+            b"\r",
+            b" ",
+            b"  ",
+            b"\t",
+            b"\"",
+            b"\\\"",
+            b"A:B",
+            b"Cash",
+            b"1,204.5",
+            b"-",
+            b"(",
+            b")",
+            b"/",
+            b"0",
+            b"KWH",
+            b"{",
+            b"}",
+            b"@",
+            b"#tag",
+            b"^link",
+            b"key: ",
+            b"pushtag ",
+            b"balance ",
+            b"option ",
+            b"; note\n",
+            b"\xff",
+        ];
+        let mut text = Vec::new();
+        for _ in 0..self.below(30) {
+            text.extend_from_slice(pieces[self.below(pieces.len())]);
+        }
+        text
+    }
+}
+
+fn sound(refusal: Refusal, text: &[u8]) {
+    assert!((1..=11).contains(&refusal.number));
+    assert!(refusal.place <= text.len());
+    assert!(refusal.count == 0 || refusal.number == Refusal::TOO_SHORT);
+}
+
+#[test]
+fn any_bytes_get_rows_or_a_refusal() {
+    let mut dice = Dice(0x9E37_79B9_7F4A_7C15);
+    for _ in 0..20_000 {
+        let text = dice.text();
+        let lent: Vec<u8> = (0..dice.below(40 * ROW_BYTES)).map(|n| n as u8).collect();
+        for call in [read, recover] {
+            let mut table = lent.clone();
+            match call(&text, &mut table) {
+                Err(refusal) => {
+                    sound(refusal, &text);
+                    assert_eq!(table, lent);
+                }
+                Ok(count) => {
+                    let end = count * ROW_BYTES;
+                    assert_eq!(table[end..], lent[end..]);
+                    cut_without_gap(&text, &table[..end]);
+                }
+            }
+        }
+        match expression(&text) {
+            Err(refusal) => sound(refusal, &text),
+            Ok(found) => assert!(found.stop <= text.len()),
+        }
+        let mut buffer = lent.clone();
+        match content(&text, &mut buffer) {
+            Err(refusal) => {
+                sound(refusal, &text);
+                assert_eq!(buffer, lent);
+            }
+            Ok(count) => assert_eq!(buffer[count..], lent[count..]),
+        }
+        let (start, end) = (dice.below(99), dice.below(99));
+        assert_eq!(
+            span_text(&text, start, end),
+            text.get(start..end).unwrap_or_default()
+        );
+        let _ = tag_in_force(&text, &lent, dice.below(50), b"tag");
+    }
+}
+
+/// The rows of entries and refused blocks stand end to end, and all others within the ledger.
+fn cut_without_gap(text: &[u8], table: &[u8]) {
+    let mut at = 0;
+    for row in Rows::new(table) {
+        if row.kind.is_detail() {
+            assert!(row.start <= row.end && row.end as usize <= text.len());
+        } else {
+            assert_eq!(row.start, at);
+            at = row.end;
+        }
+    }
+    assert_eq!(at as usize, text.len());
+}

@@ -1,0 +1,143 @@
+//! The case file of the program `replay`, run through the linked archive: every call, its answer, and every lent byte afterwards.
+//!
+//! The file is `crates/replay/stdin`; `LUMBRISSE_CASES` names another.
+
+use std::env;
+use std::fs;
+use std::path::PathBuf;
+
+use lumbrisse::{content, expression, read, recover, span_text, tag_in_force, Refusal};
+
+/// The bytes of a case that are left.
+struct Left<'a>(&'a [u8]);
+
+impl<'a> Left<'a> {
+    fn bytes(&mut self, count: usize) -> &'a [u8] {
+        let (front, rest) = self.0.split_at(count);
+        self.0 = rest;
+        front
+    }
+
+    fn number(&mut self) -> usize {
+        let bytes = self.bytes(4).try_into().unwrap();
+        u32::from_le_bytes(bytes) as usize
+    }
+
+    fn value(&mut self) -> i64 {
+        let bytes = self.bytes(8).try_into().unwrap();
+        i64::from_le_bytes(bytes)
+    }
+}
+
+/// What a call answers, in the case file's numbers.
+#[derive(Debug, PartialEq, Eq)]
+struct Answer {
+    number: usize,
+    place: usize,
+    count: usize,
+    value: i64,
+}
+
+fn answer(place: usize, count: usize, value: i64) -> Answer {
+    Answer {
+        number: 0,
+        place,
+        count,
+        value,
+    }
+}
+
+fn refused(refusal: Refusal) -> Answer {
+    Answer {
+        number: refusal.number,
+        place: refusal.place,
+        count: refusal.count,
+        value: 0,
+    }
+}
+
+fn counted(reply: Result<usize, Refusal>) -> Answer {
+    reply.map_or_else(refused, |count| answer(0, count, 0))
+}
+
+/// A case: the call with what it takes, then what it must answer and leave in the buffer.
+struct Case<'a> {
+    call: usize,
+    numbers: [usize; 4],
+    first: &'a [u8],
+    second: &'a [u8],
+    before: &'a [u8],
+    answer: Answer,
+    after: &'a [u8],
+}
+
+fn next<'a>(left: &mut Left<'a>) -> Case<'a> {
+    let call = left.number();
+    let numbers = [(); 4].map(|()| left.number());
+    let [n, m, t] = [(); 3].map(|()| left.number());
+    let [number, place, count, _] = [(); 4].map(|()| left.number());
+    let value = left.value();
+    Case {
+        call,
+        numbers,
+        answer: Answer {
+            number,
+            place,
+            count,
+            value,
+        },
+        first: left.bytes(n),
+        second: left.bytes(m),
+        before: left.bytes(t),
+        after: left.bytes(t),
+    }
+}
+
+/// Makes the case's call on its buffer.
+fn called(case: &Case, buffer: &mut [u8]) -> Answer {
+    let [a, b, ..] = case.numbers;
+    match case.call {
+        1 => counted(read(case.first, buffer)),
+        2 => counted(recover(case.first, buffer)),
+        3 => match expression(case.first) {
+            Ok(found) => answer(found.stop, 0, found.value),
+            Err(refusal) => refused(refusal),
+        },
+        4 => counted(content(case.first, buffer)),
+        5 => {
+            let text = span_text(case.first, a, b);
+            assert_eq!(text, case.second);
+            let start = text.as_ptr() as usize - case.first.as_ptr() as usize;
+            answer(start, text.len(), 0)
+        }
+        6 => counted(tag_in_force(case.first, buffer, a, case.second).map(usize::from)),
+        call => panic!("the case file has a call {call}"),
+    }
+}
+
+#[test]
+fn every_case_is_answered_as_it_must_be() {
+    let file = env::var_os("LUMBRISSE_CASES").map_or_else(
+        || {
+            PathBuf::from(concat!(
+                env!("CARGO_MANIFEST_DIR"),
+                "/../../crates/replay/stdin"
+            ))
+        },
+        PathBuf::from,
+    );
+    let bytes = fs::read(&file).unwrap_or_else(|error| panic!("{}: {error}", file.display()));
+    let mut left = Left(&bytes);
+    let mut calls = [0; 7];
+    while !left.0.is_empty() {
+        let case = next(&mut left);
+        let mut buffer = case.before.to_vec();
+        let found = called(&case, &mut buffer);
+        calls[case.call] += 1;
+        let text = String::from_utf8_lossy(case.first);
+        assert_eq!(found, case.answer, "call {} on {text:?}", case.call);
+        assert_eq!(buffer, case.after, "call {} on {text:?}", case.call);
+    }
+    assert!(calls.iter().skip(1).all(|count| *count > 0), "{calls:?}");
+    println!("cases of each call: {:?}", &calls[1..]);
+}

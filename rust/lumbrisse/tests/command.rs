@@ -1,0 +1,265 @@
+//! The command `lumbrisse` as a shell runs it: what it writes, and its exit status.
+
+use std::io::Write;
+use std::path::Path;
+use std::process::{Command, Output, Stdio};
+
+const CLEAN: &str = "examples/clean.beancount";
+const DAMAGED: &str = "examples/building.beancount";
+
+/// The command, run at the repository's root.
+fn command(words: &[&str]) -> Command {
+    let mut command = Command::new(env!("CARGO_BIN_EXE_lumbrisse"));
+    let root = Path::new(env!("CARGO_MANIFEST_DIR")).join("../..");
+    command.current_dir(root).args(words);
+    command
+}
+
+struct Ran {
+    status: i32,
+    out: String,
+    err: String,
+}
+
+fn ran(output: Output) -> Ran {
+    Ran {
+        status: output.status.code().unwrap(),
+        out: String::from_utf8(output.stdout).unwrap(),
+        err: String::from_utf8(output.stderr).unwrap(),
+    }
+}
+
+fn run(words: &[&str]) -> Ran {
+    ran(command(words).stdin(Stdio::null()).output().unwrap())
+}
+
+fn run_on(input: &[u8], words: &[&str]) -> Ran {
+    let mut child = command(words)
+        .stdin(Stdio::piped())
+        .stdout(Stdio::piped())
+        .stderr(Stdio::piped())
+        .spawn()
+        .unwrap();
+    child.stdin.take().unwrap().write_all(input).unwrap();
+    ran(child.wait_with_output().unwrap())
+}
+
+#[test]
+fn a_clean_ledger_is_counted() {
+    let Ran { status, out, err } = run(&["read", CLEAN]);
+    assert_eq!((status, err.as_str()), (0, ""));
+    let first = "examples/clean.beancount: accepted, 49 entries, dated 2023-12-31 to 2024-04-15\n";
+    assert!(out.starts_with(first), "{out}");
+    assert!(out.contains("\n      10 transaction\n"), "{out}");
+    assert!(!out.contains('\x1b'));
+}
+
+#[test]
+fn a_damaged_ledger_is_refused_with_its_line() {
+    let Ran { status, out, err } = run(&["read", DAMAGED]);
+    assert_eq!((status, out.as_str()), (1, ""));
+    assert_eq!(
+        err,
+        "examples/building.beancount:56:1: refusal 4: a required part of this entry is missing\n   \
+         56 | 2024-03-31 * \"Office\" \"Flat 2, corrected by hand\n      \
+         | ^\n"
+    );
+}
+
+#[test]
+fn recovering_names_the_block_and_keeps_the_rest() {
+    let Ran { status, out, err } = run(&["recover", DAMAGED]);
+    assert_eq!((status, err.as_str()), (1, ""));
+    assert!(
+        out.starts_with("examples/building.beancount:56:1: refusal 4: "),
+        "{out}"
+    );
+    assert!(out.contains("  refused block: lines 56 to 58\n"), "{out}");
+    let kept = "1 block refused, kept 48 entries, dated 2023-12-31 to 2024-04-15\n";
+    assert!(out.contains(kept), "{out}");
+
+    let Ran { status, out, .. } = run(&["recover", CLEAN]);
+    assert_eq!(status, 0);
+    assert!(out.contains(": nothing refused, kept 49 entries,"), "{out}");
+}
+
+#[test]
+fn rows_are_listed_as_the_rules_list_them() {
+    let Ran { status, out, .. } = run_on(b"2024-01-31 * \"Jan\"\n", &["read", "--rows", "-"]);
+    assert_eq!(status, 0);
+    assert_eq!(
+        out,
+        "6 0 19 1 20240131 2 0\n20 11 12 1 0 0 0\n22 14 17 1 0 0 0\n"
+    );
+
+    let Ran { status, out, .. } = run_on(
+        b"2024-01-31\n; a\n2024-02-29 *\n",
+        &["recover", "-", "--rows"],
+    );
+    assert_eq!(status, 1);
+    assert_eq!(
+        out,
+        "90 0 15 1 4 0 0\n6 15 28 3 20240229 1 0\n20 26 27 3 0 0 0\n"
+    );
+
+    let Ran { status, out, err } = run_on(b"x", &["read", "--rows", "-"]);
+    assert_eq!((status, out.as_str()), (1, ""));
+    assert!(err.starts_with("<stdin>:1:1: refusal 5: "), "{err}");
+}
+
+#[test]
+fn json_is_one_object() {
+    let Ran { status, out, err } = run_on(b"2024-01-31 close A:B\n", &["read", "--json", "-"]);
+    assert_eq!((status, err.as_str()), (0, ""));
+    assert_eq!(
+        out,
+        "{\"file\":\"<stdin>\",\"accepted\":true,\"rows\":[\n\
+         {\"kind\":10,\"name\":\"close\",\"start\":0,\"end\":21,\"line\":1,\"p\":20240131,\"q\":1,\"value\":0},\n\
+         {\"kind\":25,\"name\":\"account\",\"start\":17,\"end\":20,\"line\":1,\"p\":0,\"q\":0,\"value\":0,\"text\":\"A:B\"}]}\n"
+    );
+
+    let Ran { status, out, err } = run_on(b"\n2024-01-31\n", &["read", "--json", "-"]);
+    assert_eq!((status, err.as_str()), (1, ""));
+    assert_eq!(
+        out,
+        "{\"file\":\"<stdin>\",\"accepted\":false,\"refusal\":{\"number\":4,\"meaning\":\"a required part of this entry is missing\",\
+         \"place\":1,\"line\":2,\"column\":1,\"count\":0}}\n"
+    );
+
+    let Ran { status, out, .. } = run(&["recover", "--json", DAMAGED]);
+    assert_eq!(status, 1);
+    let start = "{\"file\":\"examples/building.beancount\",\"kept\":48,\"refused\":[{\"first_line\":56,\"last_line\":58,";
+    assert!(out.starts_with(start), "{out}");
+}
+
+#[test]
+fn expressions_are_evaluated() {
+    for (text, value) in [
+        ("(1,204.5 - 1200)/2", "2.25\n"),
+        ("-5", "-5\n"),
+        ("0.1*0.1", "0.01\n"),
+    ] {
+        let Ran { status, out, err } = run(&["eval", text]);
+        assert_eq!((status, out.as_str(), err.as_str()), (0, value, ""));
+    }
+    let Ran { status, out, err } = run(&["eval", "-(2)*3"]);
+    assert_eq!(
+        (status, out.as_str(), err.as_str()),
+        (0, "-2\n", "stops at byte 4; not read: *3\n")
+    );
+
+    let Ran { status, out, err } = run_on(b"12/4\n", &["eval", "-"]);
+    assert_eq!((status, out.as_str(), err.as_str()), (0, "3\n", ""));
+
+    let Ran { status, out, .. } = run(&["eval", "--json", "1/8 KWH"]);
+    let object = "{\"expression\":\"1/8 KWH\",\"accepted\":true,\"value\":\"0.125\",\"millionths\":125000,\"stop\":3}\n";
+    assert_eq!((status, out.as_str()), (0, object));
+
+    let Ran { status, out, err } = run(&["eval", "1/3"]);
+    assert_eq!((status, out.as_str()), (1, ""));
+    assert!(err.starts_with("<expression>:1:1: refusal 7: "), "{err}");
+}
+
+#[test]
+fn every_refusal_of_a_ledger_is_shown() {
+    let ledgers: [(&[u8], &str); 7] = [
+        (b"; M\xc3\xbcller\n", "<stdin>:1:4: refusal 2: "),
+        (b"\n2024-01-31\n", "<stdin>:2:1: refusal 4: "),
+        (b"; a\n; b", "<stdin>:2:1: refusal 5: "),
+        (
+            b"2024-01-31 price KWH 9999999999 EUR\n",
+            "<stdin>:1:22: refusal 6: ",
+        ),
+        (
+            b"2024-01-31 price KWH 1/3 EUR\n",
+            "<stdin>:1:22: refusal 7: ",
+        ),
+        (
+            b"2024-01-31 price KWH 1/0 EUR\n",
+            "<stdin>:1:22: refusal 8: ",
+        ),
+        (
+            b"2024-01-31 price KWH (((((((((((((((((((((((((((((((((1 EUR\n",
+            "<stdin>:1:54: refusal 3: ",
+        ),
+    ];
+    for (ledger, start) in ledgers {
+        let Ran { status, out, err } = run_on(ledger, &["read", "-"]);
+        assert_eq!((status, out.as_str()), (1, ""));
+        assert!(err.starts_with(start), "{err}");
+        assert_eq!(err.lines().count(), 3, "{err}");
+    }
+    // A terminal is not given what the ledger could steer it with.
+    let Ran { err, .. } = run_on(b"; \x1b[2J\n", &["read", "-"]);
+    assert!(err.contains("(this is byte 0x1B)"), "{err}");
+    assert!(!err.contains('\x1b'), "{err}");
+}
+
+#[test]
+fn a_file_without_end_is_refused_for_its_size() {
+    let Ran { status, err, .. } = run(&["read", "/dev/zero"]);
+    assert_eq!(status, 1);
+    assert_eq!(
+        err,
+        "/dev/zero:1:1: refusal 1: the text is longer than 16,777,216 bytes\n"
+    );
+}
+
+#[test]
+fn wrong_words_and_files_end_with_2() {
+    let wrong: [&[&str]; 8] = [
+        &[],
+        &["frob"],
+        &["read"],
+        &["read", "--frob", CLEAN],
+        &["read", CLEAN, CLEAN],
+        &["read", "--rows", "--json", CLEAN],
+        &["read", "examples/none.beancount"],
+        &["read", "examples"],
+    ];
+    for words in wrong {
+        let Ran { status, out, err } = run(words);
+        assert_eq!((status, out.as_str()), (2, ""), "{words:?}");
+        assert!(err.starts_with("lumbrisse: "), "{err}");
+    }
+}
+
+#[test]
+fn help_is_for_every_command() {
+    for words in [
+        &["--help"][..],
+        &["help"],
+        &["read", "--help"],
+        &["help", "recover"],
+        &["eval", "-h"],
+        &["--version"],
+    ] {
+        let Ran { status, out, err } = run(words);
+        assert_eq!((status, err.as_str()), (0, ""), "{words:?}");
+        assert!(out.starts_with("lumbrisse"), "{out}");
+    }
+}
+
+#[test]
+fn a_reader_that_goes_away_is_no_trouble() {
+    let mut child = command(&["read", "--json", CLEAN])
+        .stdout(Stdio::piped())
+        .stderr(Stdio::piped())
+        .spawn()
+        .unwrap();
+    drop(child.stdout.take());
+    let Ran { status, err, .. } = ran(child.wait_with_output().unwrap());
+    assert_eq!((status, err.as_str()), (0, ""));
+}
+
+#[test]
+fn an_answer_that_cannot_be_written_is_trouble() {
+    let full = std::fs::OpenOptions::new().write(true).open("/dev/full");
+    let output = command(&["read", CLEAN]).stdout(full.unwrap()).output();
+    let Ran { status, err, .. } = ran(output.unwrap());
+    assert_eq!(status, 2);
+    assert!(
+        err.starts_with("lumbrisse: cannot write the answer: "),
+        "{err}"
+    );
+}
