@@ -1,10 +1,9 @@
 -- The rows of a block: no more than its bytes, each on its line; and the code that reads a block.
-use Prim.Native.Nat.{ℕ, zero, suc, _+_, _≤_, _<_}
+use Prim.Native.Nat.{ℕ, _+_, _<_}
 use native.Mathlib.Nat.{add-zero}
 use native.Mathlib.Omega.{arith}
 use mathlib.Core.Path.{_≡_, refl, sym, _∙_, ap, subst}
 use mathlib.Core.List.{List, [], _∷_, map}
-use lib.IntN.{pos}
 use lib.ListN.{length, length-map}
 use Rattle.decimal.specs.Exact.{twosOf}
 use Rattle.row.specs.declared.table.Row.{Row}
@@ -46,27 +45,28 @@ block-unlined a l x = go (part x)
 
 -- ---- the code: m is the scan's answer
 
+-- the row of a refused block of n bytes at place a, as the code makes it
+abbrev refusedRow : ℕ → ℕ → ℕ → ℕ → Row
+refusedRow a n k q = record { kind = 90; start = a; end = a + n; line = 0; p = k; q = q; bits = 0 }
+
 module _ (a : ℕ) (s : List ℕ) (m : Scan) (e : m ≡ scanAnswer (partAt a 1 s)) where
   block-moved : partAt a 1 s ≡ movedReading a 0 (part s)
   block-moved = part-move a 0 s
 
   module _ (k q : ℕ) (i : m ≡ Scan.Stopped k q) where
-    refused-row : unlinedBlock a s ≡ record { kind = 90; start = a; end = a + length s; line = 0; p = k; q = q; bits = 0 } ∷ []
+    refused-row : unlinedBlock a s ≡ refusedRow a (length s) k q ∷ []
     unfolding unlinedBlock blockRows rowOf scanAnswer twosOf
     refused-row = go (part s) (sym i ∙ e ∙ ap scanAnswer block-moved)
       where
         go : (w : Reading) → Scan.Stopped k q ≡ scanAnswer (movedReading a 0 w)
-            → map (withLine 0) (blockRows a 0 (length s) w) ≡ record { kind = 90; start = a; end = a + length s; line = 0; p = k; q = q; bits = 0 } ∷ []
+            → map (withLine 0) (blockRows a 0 (length s) w) ≡ refusedRow a (length s) k q ∷ []
         go (accepted rs) z = absurd (let y : _≡_ {A = ℕ} 0 1 = cc in omega arith)
-        go (denied j p) z =
-            let ek : j ≡ k = cc in
-            let eq : a + p ≡ q = cc in
-            rw (ek, eq)
+        go (denied j p) z = cc
 
     pub block-one : 1 ≡ length (unlinedBlock a s)
     block-one = rw refused-row
 
-    pub block-refused : (t v u : List ℕ) → length v ≡ length t → u ≡ pour (record { kind = 90; start = a; end = a + length s; line = 0; p = k; q = q; bits = 0 } ∷ []) v
+    pub block-refused : (t v u : List ℕ) → length v ≡ length t → u ≡ pour (refusedRow a (length s) k q ∷ []) v
         → Front (unlinedBlock a s) t u
     block-refused t v u l z = rw refused-row (front-one _ t v u l z)
 

@@ -1,6 +1,5 @@
 -- Recovering reading, block by block: its rows stand on their lines, and what the code has done when it has reached a place.
 use Prim.Native.Nat.{ℕ, zero, suc, _+_, _-_, _≤_, _<_}
-use native.Mathlib.Nat.{add-assoc, add-comm}
 use native.Mathlib.Omega.{arith}
 use mathlib.Core.Path.{_≡_, refl, sym, _∙_, ap, subst}
 use mathlib.Core.List.{List, [], _∷_, _++_, map, map-append, append-assoc, append-nil}
@@ -10,7 +9,7 @@ use borrow.Rule.Slice.PartMut.{putMid}
 use lib.ListN.{length, take, drop, length-append, length-map, length-take, length-drop, take-append-drop, drop-of-length-le}
 use lib.Seq.{take-all, drop-drop, length-take-le}
 use Rattle.row.specs.declared.table.Row.{Row}
-use Rattle.row.specs.Row.{placeOf, feeds}
+use Rattle.row.specs.Row.{rowsBytes, placeOf, feeds}
 use Rattle.ledger.specs.Plain.{part}
 use Rattle.ledger.specs.steps.Scan.{withLine}
 use Rattle.ledger.proofs.PlainLaws.{Kept, kept-append}
@@ -75,7 +74,7 @@ pub record Cut (s u : List ℕ) (at n : ℕ) (t : List ℕ) : Type 0 where
   pub rest : recoverFrom (length s) 0 0 s ≡ rows ++ recoverFrom fuel at line (drop at s)
 
 pub cut-start : (s t : List ℕ) → Cut s t 0 0 t
-unfolding Rattle.row.specs.Row.rowsBytes
+unfolding rowsBytes
 cut-start s t =
     record {
       fuel = length s;

@@ -1,18 +1,18 @@
 -- Rows at the front of a table.
-use Prim.Native.Nat.{ℕ, suc, _+_, _*_, _-_, _≤_}
+use Prim.Native.Nat.{ℕ, _+_, _*_, _-_, _≤_}
 use native.Mathlib.Omega.{arith}
-use mathlib.Core.Path.{_≡_, refl, sym, _∙_, ap, subst}
+use mathlib.Core.Path.{_≡_, refl, sym, _∙_}
 use mathlib.Core.List.{List, [], _∷_, _++_, append-assoc, append-nil}
 use borrow.Rule.Slice.PartMut.{putMid}
 use lib.ListN.{length, take, drop, length-append, length-take, length-drop, drop-of-length-le}
 use lib.Seq.{take-at, take-all, take-append-add, length-take-le}
 use Rattle.row.specs.declared.table.Row.{Row}
-use Rattle.row.specs.Row.{rowsBytes, pour, pourAt, placeOf}
+use Rattle.row.specs.Row.{rowsBytes, pour, placeOf}
 use Rattle.row.specs.steps.Writing.{Poured}
 use Rattle.row.proofs.PourLaws.{length-rowBytes, length-pour, pour-all, pour-append, pourAt-zero, pourAt-at}
 use Rattle.recovery.specs.steps.Front.{Front}
 
-pub length-rowsBytes : (rs : List Row) → length (rowsBytes rs) ≡ length rs * 32
+length-rowsBytes : (rs : List Row) → length (rowsBytes rs) ≡ length rs * 32
 unfolding rowsBytes
 length-rowsBytes [] = refl
 length-rowsBytes (r ∷ rs) = rw (length-append, length-rowBytes, length-rowsBytes rs) (omega arith)

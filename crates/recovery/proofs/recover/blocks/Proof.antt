@@ -2,7 +2,6 @@ use Rattle.recovery.proofs.BlocksLaws.{Cut, blocks-laws}
 use Prim.Native.Nat.{_-_}
 use mathlib.Core.Path.{_≡_}
 use lib.ListN.{length}
-use Rattle.recovery.proofs.BlocksLaws.{blocks-laws}
 use borrow.Author.Needs.{needs}
 use Rattle.recovery.proofs.recover.blocks.Statement.{statement}
 use Rattle.recovery.proofs.recover.blocks.Tie as tie
