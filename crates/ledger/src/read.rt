@@ -13,7 +13,7 @@ ghost use Rattle.ledger.specs.Answers.{answer, left};
 ghost use Rattle.ledger.specs.steps.Scan.{scanned, scanAnswer};
 
 // A ledger's bytes at the most (refusal 1).
-const SIZE: usize = 16_777_216;
+pub const SIZE: usize = 16_777_216;
 
 pub enum Answer {
     Rows(usize),

@@ -1,6 +1,7 @@
 // Recovering reading. The first pass, into no table, gives the need; the second writes.
 use crate::block;
 use ledger::read::Answer;
+use ledger::read::SIZE;
 use row::lines;
 use row::table;
 use row::table::WIDTH;
@@ -10,9 +11,6 @@ ghost use lib.ListN.{length};
 ghost use Rattle.ledger.specs.Answers.{answer, left};
 ghost use Rattle.recovery.specs.Recovering.{recovered};
 ghost use Rattle.recovery.specs.steps.Front.{unlined, Front};
-
-// A ledger's bytes at the most (refusal 1).
-const SIZE: usize = 16_777_216;
 
 // Block by block: so many rows, which go to the table's front, where they all fit, with no lines yet. What stands behind them may change too.
 fn blocks(s: &[u8], table: &mut [u8]) -> usize
