@@ -1,5 +1,5 @@
 -- Each export's promise fixes its answer: two answers that meet it are equal, with every lent byte; and for every input there is one.
-use Prim.Native.Nat.{ℕ, _/_, _-_}
+use Prim.Native.Nat.{ℕ, _/_}
 use mathlib.Core.Path.{_≡_, refl, sym, _∙_}
 use mathlib.Core.Bool.{Bool, true, false}
 use mathlib.Core.List.{List}
@@ -17,11 +17,11 @@ use Rattle.lumbrisse.specs.declared.reply.Part.{Part}
 use Rattle.lumbrisse.specs.Numbers.{replyOf, contentReply, forceReply, evaluatedOf, partOf}
 use Rattle.lumbrisse.specs.Promises.{TablePromise, ContentPromise, ExpressionPromise, TagPromise, SpanPromise}
 
--- two that are what is defined
+-- both are what is defined
 pub same-defined : {A : Type 0} {x r q : A} → r ≡ x → q ≡ x → r ≡ q
 same-defined e f = e ∙ sym f
 
--- ---- two answers to one call
+-- ---- two answers to one call; a table is that of plain and of recovering reading
 
 pub table-unique : {x : Reading} {t u v : List ℕ} {r q : Reply} → TablePromise x t r u → TablePromise x t q v → (r ≡ q) × (u ≡ v)
 table-unique a b = (same-defined (a .reply) (b .reply), same-defined (a .rows) (b .rows))
