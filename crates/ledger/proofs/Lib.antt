@@ -1,7 +1,10 @@
 pub mod PlainLaws
 pub mod MoveLaws
+pub mod WholeMoved
 pub mod LaidRows
 pub mod ScanLaws
+pub mod PartLaws
+pub mod LinedRows
 pub mod ReadLaws
 pub mod Places
 pub mod ExpressionPlaces

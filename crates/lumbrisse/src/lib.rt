@@ -5,10 +5,12 @@ use access::single;
 use access::span;
 use access::tables;
 use ledger::read;
+use recovery::recover;
 use reply::Evaluated;
 use reply::Part;
 use reply::Reply;
 ghost use Rattle.ledger.specs.Plain.{plain};
+ghost use Rattle.recovery.specs.Recovering.{recovered};
 ghost use Rattle.lumbrisse.specs.Promises.{TablePromise, ContentPromise, ExpressionPromise, TagPromise, SpanPromise};
 
 // Plain reading: the rows' count, or a refusal.
@@ -17,6 +19,15 @@ pub extern "C" fn lumbrisse_read(ledger: &[u8], table: &mut [u8]) -> Reply
     ensures { λ r. ⌜ TablePromise (plain (now (ledger .entry))) (now (table .entry)) r (now (table .exit)) ⌝ }
 {
     let a = read::read(ledger, table);
+    reply::reply_of(a)
+}
+
+// Recovering reading: the rows' count, or a refusal (1 or 9).
+#[no_mangle]
+pub extern "C" fn lumbrisse_recover(ledger: &[u8], table: &mut [u8]) -> Reply
+    ensures { λ r. ⌜ TablePromise (recovered (now (ledger .entry))) (now (table .entry)) r (now (table .exit)) ⌝ }
+{
+    let a = recover::recover(ledger, table);
     reply::reply_of(a)
 }
 

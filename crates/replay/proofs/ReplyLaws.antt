@@ -10,6 +10,7 @@ use Rattle.decimal.specs.declared.Decimal.{Decimal}
 use Rattle.ledger.specs.Plain.{plain}
 use Rattle.ledger.specs.Answers.{answer, left}
 use Rattle.ledger.specs.declared.read.Answer.{Answer}
+use Rattle.recovery.specs.Recovering.{recovered}
 use Rattle.access.specs.Single.{evaluated}
 use Rattle.access.specs.declared.single.Evaluated.{Evaluated}
 use Rattle.access.specs.Contents.{contentAnswer, contentLeft}
@@ -19,19 +20,22 @@ use Rattle.access.specs.Tables.{inForce}
 use Rattle.access.specs.declared.tables.Force.{Force}
 use Rattle.replay.specs.declared.call.Reply.{Reply}
 use Rattle.replay.specs.declared.call.Outcome.{Outcome}
-use Rattle.replay.specs.Replies.{replied, plainReply, singleReply, contentReply, partReply, forceReply, outcome, leftBy}
+use Rattle.replay.specs.Replies.{replied, readingReply, singleReply, contentReply, partReply, forceReply, outcome, leftBy}
 
 -- ---- one call: a is its answer, x what it must be
 
 module _ (r : Reply) where
-  module _ (a x : Answer) (e : a ≡ x) where
-    pub plain-rows : (n : ℕ) → a ≡ Answer.Rows n → r ≡ replied 0 0 n 0 → r ≡ plainReply x
-    unfolding plainReply
-    plain-rows n v w = rw (← e, v) w
+  module _ (a : Answer) where
+    pub reading-rows : (n : ℕ) → a ≡ Answer.Rows n → r ≡ replied 0 0 n 0 → r ≡ readingReply a
+    unfolding readingReply
+    reading-rows n v w = rw v w
 
-    pub plain-refusal : (n p k : ℕ) → a ≡ Answer.Refusal n p k → r ≡ replied n p k 0 → r ≡ plainReply x
-    unfolding plainReply
-    plain-refusal n p k v w = rw (← e, v) w
+    pub reading-refusal : (n p k : ℕ) → a ≡ Answer.Refusal n p k → r ≡ replied n p k 0 → r ≡ readingReply a
+    unfolding readingReply
+    reading-refusal n p k v w = rw v w
+
+    pub reading-told : (x : Answer) → r ≡ readingReply a → a ≡ x → r ≡ readingReply x
+    reading-told x w e = rw (← e) w
 
   module _ (a x : Evaluated) (e : a ≡ x) where
     pub single-read : (p : ℕ) (d : Decimal) (b v : ℕ) → a ≡ Evaluated.Read p d → b ≡ twosOf (wholeOf d) → v ≡ b → r ≡ replied 0 p 0 v → r ≡ singleReply x
@@ -73,15 +77,19 @@ module _ (r : Reply) where
     unfolding forceReply
     force-refusal n v w = rw (← e, v) w
 
-pub ruleset reply-laws = (plain-rows, plain-refusal, single-read, single-refusal, content-bytes, content-refusal, part-good, part-bad, force-yes, force-not, force-refusal)
+pub ruleset reply-laws = (reading-rows, reading-refusal, reading-told, single-read, single-refusal, content-bytes, content-refusal, part-good, part-bad, force-yes, force-not, force-refusal)
 
 -- ---- the call with a number k
 
 module _ (k a b : ℕ) (s u t : List ℕ) where
   module _ (r : Reply) where
-    pub made-plain : k ≡ 1 → r ≡ plainReply (answer (plain s) (length t / 32)) → Outcome.Answered r ≡ outcome k a b s u t
+    pub made-plain : k ≡ 1 → r ≡ readingReply (answer (plain s) (length t / 32)) → Outcome.Answered r ≡ outcome k a b s u t
     unfolding outcome
     made-plain e v = rw (e, v)
+
+    pub made-recovering : k ≡ 2 → r ≡ readingReply (answer (recovered s) (length t / 32)) → Outcome.Answered r ≡ outcome k a b s u t
+    unfolding outcome
+    made-recovering e v = rw (e, v)
 
     pub made-single : k ≡ 3 → r ≡ singleReply (evaluated s) → Outcome.Answered r ≡ outcome k a b s u t
     unfolding outcome
@@ -99,14 +107,10 @@ module _ (k a b : ℕ) (s u t : List ℕ) where
     unfolding outcome
     made-force e v = rw (e, v)
 
-  pub made-left-out : k ≡ 2 → Outcome.LeftOut ≡ outcome k a b s u t
-  unfolding outcome
-  made-left-out e = rw e
-
-  module _ (n1 : k ≡ 1 → ⊥) (n4 : k ≡ 4 → ⊥) where
-    pub made-unknown : (k ≡ 2 → ⊥) → (k ≡ 3 → ⊥) → (k ≡ 5 → ⊥) → (k ≡ 6 → ⊥) → Outcome.Unknown ≡ outcome k a b s u t
+  module _ (n1 : k ≡ 1 → ⊥) (n2 : k ≡ 2 → ⊥) (n4 : k ≡ 4 → ⊥) where
+    pub made-unknown : (k ≡ 3 → ⊥) → (k ≡ 5 → ⊥) → (k ≡ 6 → ⊥) → Outcome.Unknown ≡ outcome k a b s u t
     unfolding outcome
-    made-unknown n2 n3 n5 n6 = rw (ne-eqb k 1 n1, ne-eqb k 2 n2, ne-eqb k 3 n3, ne-eqb k 4 n4, ne-eqb k 5 n5, ne-eqb k 6 n6)
+    made-unknown n3 n5 n6 = rw (ne-eqb k 1 n1, ne-eqb k 2 n2, ne-eqb k 3 n3, ne-eqb k 4 n4, ne-eqb k 5 n5, ne-eqb k 6 n6)
 
 -- the lent buffer: w is what the call left
 module _ (k : ℕ) (s t : List ℕ) where
@@ -114,13 +118,13 @@ module _ (k : ℕ) (s t : List ℕ) where
   unfolding leftBy
   left-plain w e v = rw e v
 
+  pub left-recovering : (w : List ℕ) → k ≡ 2 → w ≡ left (recovered s) t → w ≡ leftBy k s t
+  unfolding leftBy
+  left-recovering w e v = rw e v
+
   pub left-content : (w : List ℕ) → k ≡ 4 → w ≡ contentLeft s t → w ≡ leftBy k s t
   unfolding leftBy
   left-content w e v = rw e v
-
-  pub left-two : k ≡ 2 → t ≡ leftBy k s t
-  unfolding leftBy
-  left-two e = rw e
 
   pub left-three : k ≡ 3 → t ≡ leftBy k s t
   unfolding leftBy
@@ -134,8 +138,8 @@ module _ (k : ℕ) (s t : List ℕ) where
   unfolding leftBy
   left-six e = rw e
 
-  pub left-unknown : (k ≡ 1 → ⊥) → (k ≡ 4 → ⊥) → t ≡ leftBy k s t
+  pub left-unknown : (k ≡ 1 → ⊥) → (k ≡ 2 → ⊥) → (k ≡ 4 → ⊥) → t ≡ leftBy k s t
   unfolding leftBy
-  left-unknown n1 n4 = rw (ne-eqb k 1 n1, ne-eqb k 4 n4)
+  left-unknown n1 n2 n4 = rw (ne-eqb k 1 n1, ne-eqb k 2 n2, ne-eqb k 4 n4)
 
-pub ruleset made-laws = (made-plain, made-single, made-content, made-part, made-force, made-left-out, made-unknown, left-plain, left-content, left-two, left-three, left-five, left-six, left-unknown)
+pub ruleset made-laws = (made-plain, made-recovering, made-single, made-content, made-part, made-force, made-unknown, left-plain, left-recovering, left-content, left-three, left-five, left-six, left-unknown)

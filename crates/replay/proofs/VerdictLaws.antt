@@ -65,12 +65,8 @@ module _ (c : Case) (must : Reply) (s u t after : List ℕ) (o : Outcome) (e : o
   unfolding verdict compared
   judged-answered r x y w z f g h i j = rw (← e, f, ← g, ← h, ← i, j)
 
-  pub judged-left-out : o ≡ Outcome.LeftOut → Verdict.LeftOut ≡ verdict c must s u t after
-  unfolding verdict compared
-  judged-left-out f = rw (← e, f)
-
   pub judged-unknown : o ≡ Outcome.Unknown → Verdict.Unknown ≡ verdict c must s u t after
   unfolding verdict compared
   judged-unknown f = rw (← e, f)
 
-pub ruleset verdict-laws = (judged-answered, judged-left-out, judged-unknown)
+pub ruleset verdict-laws = (judged-answered, judged-unknown)

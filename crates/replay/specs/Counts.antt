@@ -12,7 +12,6 @@ comparedStep a = cond (allAlike a) Step.Same Step.Differs
 -- a call that no number names differs
 abbrev pub stepOf : Verdict → Step
 stepOf (Verdict.Compared a) = comparedStep a
-stepOf Verdict.LeftOut = Step.LeftOut
 stepOf Verdict.Unknown = Step.Differs
 
 abbrev pub ends : Step → Bool
@@ -20,25 +19,15 @@ ends Step.End = true
 ends Step.Broken = false
 ends Step.Same = false
 ends Step.Differs = false
-ends Step.LeftOut = false
 
 abbrev pub breaks : Step → Bool
 breaks Step.End = false
 breaks Step.Broken = true
 breaks Step.Same = false
 breaks Step.Differs = false
-breaks Step.LeftOut = false
 
 abbrev pub differing : Step → ℕ
 differing Step.End = 0
 differing Step.Broken = 1
 differing Step.Same = 0
 differing Step.Differs = 1
-differing Step.LeftOut = 0
-
-abbrev pub leftOut : Step → ℕ
-leftOut Step.End = 0
-leftOut Step.Broken = 0
-leftOut Step.Same = 0
-leftOut Step.Differs = 0
-leftOut Step.LeftOut = 1

@@ -8,6 +8,7 @@ use Rattle.decimal.specs.Exact.{wholeOf, twosOf}
 use Rattle.ledger.specs.Plain.{plain}
 use Rattle.ledger.specs.Answers.{answer, left}
 use Rattle.ledger.specs.declared.read.Answer.{Answer}
+use Rattle.recovery.specs.Recovering.{recovered}
 use Rattle.access.specs.Single.{evaluated}
 use Rattle.access.specs.declared.single.Evaluated.{Evaluated}
 use Rattle.access.specs.Contents.{contentAnswer, contentLeft}
@@ -22,9 +23,10 @@ use Rattle.replay.specs.declared.call.Outcome.{Outcome}
 abbrev pub replied : ℕ → ℕ → ℕ → ℕ → Reply
 replied n p c v = record { number = n; place = p; count = c; value = v }
 
-unfoldable pub plainReply : Answer → Reply
-plainReply (Answer.Rows n) = replied 0 0 n 0
-plainReply (Answer.Refusal n p c) = replied n p c 0
+-- of plain and of recovering reading
+unfoldable pub readingReply : Answer → Reply
+readingReply (Answer.Rows n) = replied 0 0 n 0
+readingReply (Answer.Refusal n p c) = replied n p c 0
 
 unfoldable pub singleReply : Evaluated → Reply
 singleReply (Evaluated.Read e d) = replied 0 e 0 (twosOf (wholeOf d))
@@ -46,15 +48,16 @@ forceReply (Force.Refusal n) = replied n 0 0 0
 -- the call with a number k, of two numbers, two texts and a lent buffer
 unfoldable pub outcome : ℕ → ℕ → ℕ → List ℕ → List ℕ → List ℕ → Outcome
 outcome k a b s u t =
-    let plainly = Outcome.Answered (plainReply (answer (plain s) (length t / 32))) in
+    let plainly = Outcome.Answered (readingReply (answer (plain s) (length t / 32))) in
+    let recovering = Outcome.Answered (readingReply (answer (recovered s) (length t / 32))) in
     let single = Outcome.Answered (singleReply (evaluated s)) in
     let content = Outcome.Answered (contentReply (contentAnswer s (length t))) in
     let part = Outcome.Answered (partReply s a b) in
     let force = Outcome.Answered (forceReply (inForce s t a u)) in
     cond (eqb k 1) plainly
-    (cond (eqb k 2) Outcome.LeftOut
+    (cond (eqb k 2) recovering
     (cond (eqb k 3) single (cond (eqb k 4) content (cond (eqb k 5) part (cond (eqb k 6) force Outcome.Unknown)))))
 
--- the lent buffer afterwards: plain reading and string content write
+-- the lent buffer afterwards: both readings and string content write
 unfoldable pub leftBy : ℕ → List ℕ → List ℕ → List ℕ
-leftBy k s t = cond (eqb k 1) (left (plain s) t) (cond (eqb k 4) (contentLeft s t) t)
+leftBy k s t = cond (eqb k 1) (left (plain s) t) (cond (eqb k 2) (left (recovered s) t) (cond (eqb k 4) (contentLeft s t) t))

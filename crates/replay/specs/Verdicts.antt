@@ -29,7 +29,6 @@ allAlike a = a .number && a .place && a .count && a .value && a .text && a .buff
 
 unfoldable pub compared : Outcome → Reply → Bool → Bool → Verdict
 compared (Outcome.Answered r) must text buffer = Verdict.Compared (alike r must text buffer)
-compared Outcome.LeftOut must text buffer = Verdict.LeftOut
 compared Outcome.Unknown must text buffer = Verdict.Unknown
 
 -- the text of a span is the case's second text; no other call answers with a text

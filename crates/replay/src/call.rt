@@ -1,5 +1,4 @@
 // The calls, each with its answer as document 01's numbers.
-use access::content;
 use access::content::Content;
 use access::single;
 use access::single::Evaluated;
@@ -8,15 +7,17 @@ use access::tables;
 use access::tables::Force;
 use ledger::read;
 use ledger::read::Answer;
+use recovery::recover;
 ghost use mathlib.Core.Path.{_≡_};
 ghost use Prim.Native.Nat.{_/_};
 ghost use lib.ListN.{length};
 ghost use Rattle.ledger.specs.Plain.{plain};
 ghost use Rattle.ledger.specs.Answers.{answer, left};
+ghost use Rattle.recovery.specs.Recovering.{recovered};
 ghost use Rattle.access.specs.Single.{evaluated};
 ghost use Rattle.access.specs.Contents.{contentAnswer, contentLeft};
 ghost use Rattle.access.specs.Tables.{inForce};
-ghost use Rattle.replay.specs.Replies.{replied, plainReply, singleReply, contentReply, partReply, forceReply, outcome, leftBy};
+ghost use Rattle.replay.specs.Replies.{replied, readingReply, singleReply, contentReply, partReply, forceReply, outcome, leftBy};
 
 pub const PLAIN: usize = 1;
 
@@ -41,7 +42,6 @@ pub struct Reply {
 
 pub enum Outcome {
     Answered(Reply),
-    LeftOut,
     Unknown,
 }
 
@@ -56,11 +56,10 @@ fn numbers(number: usize, place: usize, count: usize, value: usize) -> Reply
     }
 }
 
-fn plain(ledger: &[u8], table: &mut [u8]) -> Reply
-    ensures answer { λ r. ⌜ r ≡ plainReply (answer (plain (now (ledger .entry))) (length (now (table .entry)) / 32)) ⌝ }
-    ensures rows { λ _. ⌜ now (table .exit) ≡ left (plain (now (ledger .entry))) (now (table .entry)) ⌝ }
+// What a reading into a row table answers.
+fn reading(a: Answer) -> Reply
+    ensures { λ r. ⌜ r ≡ readingReply a ⌝ }
 {
-    let a = read::read(ledger, table);
     match a {
         Answer::Rows(n) => numbers(0, 0, n, 0),
         Answer::Refusal {
@@ -69,6 +68,20 @@ fn plain(ledger: &[u8], table: &mut [u8]) -> Reply
             count,
         } => numbers(number, place, count, 0),
     }
+}
+
+fn plain(ledger: &[u8], table: &mut [u8]) -> Reply
+    ensures answer { λ r. ⌜ r ≡ readingReply (answer (plain (now (ledger .entry))) (length (now (table .entry)) / 32)) ⌝ }
+    ensures rows { λ _. ⌜ now (table .exit) ≡ left (plain (now (ledger .entry))) (now (table .entry)) ⌝ }
+{
+    reading(read::read(ledger, table))
+}
+
+fn recovering(ledger: &[u8], table: &mut [u8]) -> Reply
+    ensures answer { λ r. ⌜ r ≡ readingReply (answer (recovered (now (ledger .entry))) (length (now (table .entry)) / 32)) ⌝ }
+    ensures rows { λ _. ⌜ now (table .exit) ≡ left (recovered (now (ledger .entry))) (now (table .entry)) ⌝ }
+{
+    reading(recover::recover(ledger, table))
 }
 
 fn wide(x: u64) -> usize
@@ -91,7 +104,7 @@ fn unescaped(text: &[u8], buffer: &mut [u8]) -> Reply
     ensures answer { λ r. ⌜ r ≡ contentReply (contentAnswer (now (text .entry)) (length (now (buffer .entry)))) ⌝ }
     ensures bytes { λ _. ⌜ now (buffer .exit) ≡ contentLeft (now (text .entry)) (now (buffer .entry)) ⌝ }
 {
-    let c = content::unescape(text, buffer);
+    let c = access::content::unescape(text, buffer);
     match c {
         Content::Bytes(n) => numbers(0, 0, n, 0),
         Content::Refusal(number, need) => numbers(number, 0, need, 0),
@@ -134,7 +147,7 @@ pub fn made(
 {
     match call {
         PLAIN => Outcome::Answered(plain(first, lent)),
-        RECOVERING => Outcome::LeftOut,
+        RECOVERING => Outcome::Answered(recovering(first, lent)),
         SINGLE => Outcome::Answered(single(first)),
         CONTENT => Outcome::Answered(unescaped(first, lent)),
         SPAN => Outcome::Answered(part(first, a, b)),

@@ -20,7 +20,6 @@ pub struct Alike {
 
 pub enum Verdict {
     Compared(Alike),
-    LeftOut,
     Unknown,
 }
 
@@ -77,7 +76,6 @@ pub fn judged(
             let buffer = is_same(lent, after);
             Verdict::Compared(compared(r, must, text, buffer))
         }
-        Outcome::LeftOut => Verdict::LeftOut,
         Outcome::Unknown => Verdict::Unknown,
     }
 }

@@ -113,7 +113,6 @@ fn next(
 fn replayed(texts: &mut [u8; 65536], lent: &mut [u8; 65536], after: &mut [u8; 65536]) -> Tally {
     let mut cases: u64 = 0;
     let mut differing: u64 = 0;
-    let mut left_out: u64 = 0;
     while cases < u64::MAX {
         let s = next(cases + 1, differing < SHOWN, texts, lent, after);
         if tally::is_end(s) {
@@ -121,16 +120,11 @@ fn replayed(texts: &mut [u8; 65536], lent: &mut [u8; 65536], after: &mut [u8; 65
         }
         cases += 1;
         differing += tally::differing_in(s);
-        left_out += tally::left_out_in(s);
         if tally::is_broken(s) {
             break;
         }
     }
-    Tally {
-        cases,
-        differing,
-        left_out,
-    }
+    Tally { cases, differing }
 }
 
 fn main() {
@@ -138,8 +132,5 @@ fn main() {
     let mut lent = io::large_buffer();
     let mut after = io::large_buffer();
     let t = replayed(&mut texts, &mut lent, &mut after);
-    if 0 < t.left_out {
-        report::left_out(call::RECOVERING, t.left_out);
-    }
     report::total(t.cases, t.differing);
 }

@@ -87,7 +87,6 @@ pub fn told(number: u64, is_shown: bool, call: usize, v: Verdict) -> Step
 {
     match v {
         Verdict::Compared(a) => compared(number, is_shown, call, a),
-        Verdict::LeftOut => Step::LeftOut,
         Verdict::Unknown => not_known(number, is_shown, call),
     }
 }
@@ -100,13 +99,6 @@ pub fn too_large(number: u64) {
 pub fn cut_off(number: u64) {
     write_case(number);
     write(b": the file ends inside it\n");
-}
-
-pub fn left_out(call: usize, cases: u64) {
-    write_name(call);
-    write(b": ");
-    io::print_decimal(1, cases);
-    write(b" cases left out\n");
 }
 
 pub fn total(cases: u64, differing: u64) {

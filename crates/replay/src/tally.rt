@@ -1,7 +1,7 @@
 // How cases are counted.
 ghost use mathlib.Core.Path.{_≡_};
 ghost use Prim.Native.Nat.{_≤_};
-ghost use Rattle.replay.specs.Counts.{ends, breaks, differing, leftOut};
+ghost use Rattle.replay.specs.Counts.{ends, breaks, differing};
 
 // What a case came to; `End` is no case, and after `Broken` no more is read.
 pub enum Step {
@@ -9,13 +9,11 @@ pub enum Step {
     Broken,
     Same,
     Differs,
-    LeftOut,
 }
 
 pub struct Tally {
     pub cases: u64,
     pub differing: u64,
-    pub left_out: u64,
 }
 
 pub fn is_end(s: Step) -> bool
@@ -26,7 +24,6 @@ pub fn is_end(s: Step) -> bool
         Step::Broken => false,
         Step::Same => false,
         Step::Differs => false,
-        Step::LeftOut => false,
     }
 }
 
@@ -38,7 +35,6 @@ pub fn is_broken(s: Step) -> bool
         Step::End => false,
         Step::Same => false,
         Step::Differs => false,
-        Step::LeftOut => false,
     }
 }
 
@@ -50,18 +46,5 @@ pub fn differing_in(s: Step) -> u64
         Step::Differs => 1,
         Step::End => 0,
         Step::Same => 0,
-        Step::LeftOut => 0,
-    }
-}
-
-pub fn left_out_in(s: Step) -> u64
-    ensures { λ r. ⌜ (r ≡ leftOut s) × (r ≤ 1) ⌝ }
-{
-    match s {
-        Step::LeftOut => 1,
-        Step::End => 0,
-        Step::Broken => 0,
-        Step::Same => 0,
-        Step::Differs => 0,
     }
 }

@@ -8,35 +8,14 @@ use mathlib.Core.Path.{_≡_, refl, sym, _∙_, ap}
 use mathlib.Core.Bool.{Bool, true, false, cond, not, _||_, or-assoc, or-false}
 use mathlib.Core.List.{List, [], _∷_, _++_}
 use lib.Dec.{eqb, ltb}
-use borrow.Author.Tests.{eq-eqb, ne-eqb, lt-ltb, not-true, not-false}
-use lib.ListN.{length, getD, take, drop, drop-of-length-le, length-take}
+use borrow.Author.Tests.{lt-ltb, not-true, not-false}
+use lib.ListN.{length, getD, take, drop, length-take}
 use lib.Seq.{drop-cons, take-suc, take-all}
 use Rattle.text.specs.Bytes.{inLine}
 use Rattle.text.specs.Run.{runTo}
 use Rattle.text.proofs.TestLaws.{or-left, or-right}
 use Rattle.text.proofs.Steps.{run-on, run-ind, run-from, run-within, run-out}
 use Rattle.row.specs.Row.{feeds}
-
--- ---- one byte after the other
-
-module _ (s : List ℕ) (i : ℕ) where
-  feeds-byte : i < length s → feeds (drop i s) ≡ cond (eqb (getD s i 0) 10) 1 0 + feeds (drop (i + 1) s)
-  unfolding feeds
-  feeds-byte h = rw (drop-cons s i 0 h, add-one)
-
-  -- n line feeds stand before place i
-  module _ (n : ℕ) (e : n + feeds (drop i s) ≡ feeds s) where
-    pub feeds-yes : {m : ℕ} → i < length s → getD s i 0 ≡ 10 → m ≡ n + 1 → m + feeds (drop (i + 1) s) ≡ feeds s
-    feeds-yes h y q = omega (arith, rw (eq-eqb (getD s i 0) 10 y) at (feeds-byte h))
-
-    pub feeds-no : {m : ℕ} → i < length s → (getD s i 0 ≡ 10 → ⊥) → m ≡ n → m + feeds (drop (i + 1) s) ≡ feeds s
-    feeds-no h y q = omega (arith, rw (ne-eqb (getD s i 0) 10 y) at (feeds-byte h))
-
-    pub feeds-end : length s ≤ i → n ≡ feeds s
-    unfolding feeds
-    feeds-end h = omega (arith, rw (drop-of-length-le s h) at e)
-
-pub ruleset feeding = (feeds-yes, feeds-no, feeds-end)
 
 -- ---- eight bytes at a time
 

@@ -12,22 +12,6 @@ ghost use Rattle.text.specs.Run.{runTo};
 ghost use Rattle.row.specs.Row.{feeds};
 ghost use Rattle.row.specs.steps.Sweep.{LineOf, linesSet};
 
-// The line feeds of a text.
-pub fn feed_count(s: &[u8]) -> usize
-    ensures { λ r. ⌜ r ≡ feeds (now (s .entry)) ⌝ }
-    ensures { λ r. ⌜ r ≤ length (now (s .entry)) ⌝ }
-{
-    let mut i = 0;
-    let mut n = 0;
-    while i < s.len() {
-        if s[i] == b'\n' {
-            n += 1;
-        }
-        i += 1;
-    }
-    n
-}
-
 // The line in which the last row started: where it starts, where its line feed or the end of the text stands, and its number.
 struct Line {
     from: usize,

@@ -4,11 +4,11 @@ use Rattle.replay.proofs.replayed.Statement.{statement}
 use Rattle.replay.proofs.replayed.Tie as tie
 
 abbrev Inv-loop : tie.InvT-loop
-Inv-loop texts₀ lent₀ after₀ cases₀ differing₀ left-out₀ texts lent after cases differing left-out =
-    (differing ≤ cases) × (left-out ≤ cases)
+Inv-loop texts₀ lent₀ after₀ cases₀ differing₀ texts lent after cases differing =
+    differing ≤ cases
 
 abbrev μ-loop : tie.MeasureT-loop
-μ-loop texts₀ lent₀ after₀ cases₀ differing₀ left-out₀ texts lent after cases differing left-out =
+μ-loop texts₀ lent₀ after₀ cases₀ differing₀ texts lent after cases differing =
     18446744073709551615 - cases
 
 loop-holds : tie.Need-loop-holds Inv-loop μ-loop
@@ -31,12 +31,6 @@ differing-in-requires c κs = search needs
 
 add-differing : tie.Need-add-differing Inv-loop μ-loop
 add-differing c = search needs
-
-left-out-in-requires : tie.Need-left-out-in-requires Inv-loop μ-loop
-left-out-in-requires c κs = search needs
-
-add-left-out : tie.Need-add-left-out Inv-loop μ-loop
-add-left-out c = search needs
 
 is-broken-requires : tie.Need-is-broken-requires Inv-loop μ-loop
 is-broken-requires c κs = search needs
@@ -69,8 +63,6 @@ replayed-spec =
     add-cases
     differing-in-requires
     add-differing
-    left-out-in-requires
-    add-left-out
     is-broken-requires
     loop-less
     loop-again

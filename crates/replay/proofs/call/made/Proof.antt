@@ -6,6 +6,9 @@ use Rattle.replay.proofs.call.made.Tie as tie
 plain-requires : tie.Need-plain-requires
 plain-requires c κs = search (needs, made-laws)
 
+recovering-requires : tie.Need-recovering-requires
+recovering-requires c κs = search (needs, made-laws)
+
 single-requires : tie.Need-single-requires
 single-requires c κs = search (needs, made-laws)
 
@@ -24,14 +27,17 @@ same-length c = search (needs, made-laws)
 returns : tie.Need-returns
 returns c = search (needs, made-laws)
 
+same-length-2 : tie.Need-same-length-2
+same-length-2 c = search (needs, made-laws)
+
 returns-2 : tie.Need-returns-2
 returns-2 c = search (needs, made-laws)
 
 returns-3 : tie.Need-returns-3
 returns-3 c = search (needs, made-laws)
 
-same-length-2 : tie.Need-same-length-2
-same-length-2 c = search (needs, made-laws)
+same-length-3 : tie.Need-same-length-3
+same-length-3 c = search (needs, made-laws)
 
 returns-4 : tie.Need-returns-4
 returns-4 c = search (needs, made-laws)
@@ -39,8 +45,8 @@ returns-4 c = search (needs, made-laws)
 returns-5 : tie.Need-returns-5
 returns-5 c = search (needs, made-laws)
 
-same-length-3 : tie.Need-same-length-3
-same-length-3 c = search (needs, made-laws)
+same-length-4 : tie.Need-same-length-4
+same-length-4 c = search (needs, made-laws)
 
 returns-6 : tie.Need-returns-6
 returns-6 c = search (needs, made-laws)
@@ -53,17 +59,19 @@ made-spec =
     tie.close
     (tie.spec
     plain-requires
+    recovering-requires
     single-requires
     unescaped-requires
     part-requires
     in-force-requires
     same-length
     returns
+    same-length-2
     returns-2
     returns-3
-    same-length-2
+    same-length-3
     returns-4
     returns-5
-    same-length-3
+    same-length-4
     returns-6
     returns-7)

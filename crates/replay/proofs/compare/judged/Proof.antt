@@ -21,9 +21,6 @@ compared-requires c κs = search (needs, verdict-laws)
 enum-told : tie.Need-enum-told
 enum-told c = search (needs, verdict-laws)
 
-enum-told-2 : tie.Need-enum-told-2
-enum-told-2 c = search (needs, verdict-laws)
-
 same-length : tie.Need-same-length
 same-length c = search (needs, verdict-laws)
 
@@ -36,12 +33,6 @@ same-length-2 c = search (needs, verdict-laws)
 returns-2 : tie.Need-returns-2
 returns-2 c = search (needs, verdict-laws)
 
-same-length-3 : tie.Need-same-length-3
-same-length-3 c = search (needs, verdict-laws)
-
-returns-3 : tie.Need-returns-3
-returns-3 c = search (needs, verdict-laws)
-
 pub judged-spec : {M : Type 1} → statement M
 judged-spec =
     tie.close
@@ -52,10 +43,7 @@ judged-spec =
     is-same-requires
     compared-requires
     enum-told
-    enum-told-2
     same-length
     returns
     same-length-2
-    returns-2
-    same-length-3
-    returns-3)
+    returns-2)

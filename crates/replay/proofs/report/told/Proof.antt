@@ -12,9 +12,6 @@ compared-requires c κs = search (needs, step-laws)
 enum-told : tie.Need-enum-told
 enum-told c = search (needs, step-laws)
 
-enum-told-2 : tie.Need-enum-told-2
-enum-told-2 c = search (needs, step-laws)
-
 not-known-requires : tie.Need-not-known-requires
 not-known-requires c κs = search (needs, step-laws)
 
@@ -24,9 +21,6 @@ returns c = search (needs, step-laws)
 returns-2 : tie.Need-returns-2
 returns-2 c = search (needs, step-laws)
 
-returns-3 : tie.Need-returns-3
-returns-3 c = search (needs, step-laws)
-
 pub told-spec : {M : Type 1} → statement M
 told-spec =
     tie.close
@@ -34,8 +28,6 @@ told-spec =
     enum-known-v
     compared-requires
     enum-told
-    enum-told-2
     not-known-requires
     returns
-    returns-2
-    returns-3)
+    returns-2)

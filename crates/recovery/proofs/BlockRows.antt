@@ -1,0 +1,90 @@
+-- The rows of a block: no more than its bytes, each on its line; and the code that reads a block.
+use Prim.Native.Nat.{ℕ, zero, suc, _+_, _≤_, _<_}
+use native.Mathlib.Nat.{add-zero}
+use native.Mathlib.Omega.{arith}
+use mathlib.Core.Path.{_≡_, refl, sym, _∙_, ap, subst}
+use mathlib.Core.List.{List, [], _∷_, map}
+use lib.IntN.{pos}
+use lib.ListN.{length, length-map}
+use Rattle.decimal.specs.Exact.{twosOf}
+use Rattle.row.specs.declared.table.Row.{Row}
+use Rattle.row.specs.Row.{rowOf, feeds, pour}
+use Rattle.ledger.specs.Plain.{move, moved, Reading, accepted, denied, partAt, part}
+use Rattle.ledger.specs.steps.Scan.{withLine, scanAnswer, ScanPoured}
+use Rattle.ledger.specs.declared.scan.Scan.{Scan}
+use Rattle.ledger.proofs.PlainLaws.{Kept, kept-move, part-kept}
+use Rattle.ledger.proofs.MoveLaws.{movedReading}
+use Rattle.ledger.proofs.PartLaws.{part-move}
+use Rattle.recovery.specs.Recovering.{blockRows}
+use Rattle.recovery.specs.steps.Front.{unlinedBlock, Front}
+use Rattle.recovery.proofs.FrontLaws.{front-poured, front-one}
+
+pub block-kept : (a l : ℕ) (x : List ℕ) → 0 < length x → Kept a (l + 1) x (blockRows a l (length x) (part x))
+unfolding blockRows rowOf feeds
+block-kept a l x h = go (part x) refl
+  where
+    go : (w : Reading) → part x ≡ w → Kept a (l + 1) x (blockRows a l (length x) w)
+    go (accepted rs) e = rw (add-zero a) at (kept-move a l 0 1 x rs (part-kept x rs e))
+    go (denied k p) e =
+        record { few = omega arith; lines = (record { into = 0; inside = omega arith; place = omega arith; lines = omega arith }, tt) }
+
+-- ---- with no lines
+
+moved-unlined : (a l : ℕ) (rs : List Row) → map (withLine 0) (moved a l rs) ≡ map (withLine 0) (moved a 0 rs)
+unfolding move
+moved-unlined a l [] = refl
+moved-unlined a l (r ∷ rs) = rw (moved-unlined a l rs)
+
+-- the line that a block starts at does not count
+pub block-unlined : (a l : ℕ) (x : List ℕ) → map (withLine 0) (blockRows a l (length x) (part x)) ≡ unlinedBlock a x
+unfolding unlinedBlock blockRows rowOf
+block-unlined a l x = go (part x)
+  where
+    go : (w : Reading) → map (withLine 0) (blockRows a l (length x) w) ≡ map (withLine 0) (blockRows a 0 (length x) w)
+    go (accepted rs) = moved-unlined a l rs
+    go (denied k p) = refl
+
+-- ---- the code: m is the scan's answer
+
+module _ (a : ℕ) (s : List ℕ) (m : Scan) (e : m ≡ scanAnswer (partAt a 1 s)) where
+  block-moved : partAt a 1 s ≡ movedReading a 0 (part s)
+  block-moved = part-move a 0 s
+
+  module _ (k q : ℕ) (i : m ≡ Scan.Stopped k q) where
+    refused-row : unlinedBlock a s ≡ record { kind = 90; start = a; end = a + length s; line = 0; p = k; q = q; bits = 0 } ∷ []
+    unfolding unlinedBlock blockRows rowOf scanAnswer twosOf
+    refused-row = go (part s) (sym i ∙ e ∙ ap scanAnswer block-moved)
+      where
+        go : (w : Reading) → Scan.Stopped k q ≡ scanAnswer (movedReading a 0 w)
+            → map (withLine 0) (blockRows a 0 (length s) w) ≡ record { kind = 90; start = a; end = a + length s; line = 0; p = k; q = q; bits = 0 } ∷ []
+        go (accepted rs) z = absurd (let y : _≡_ {A = ℕ} 0 1 = cc in omega arith)
+        go (denied j p) z =
+            let ek : j ≡ k = cc in
+            let eq : a + p ≡ q = cc in
+            rw (ek, eq)
+
+    pub block-one : 1 ≡ length (unlinedBlock a s)
+    block-one = rw refused-row
+
+    pub block-refused : (t v u : List ℕ) → length v ≡ length t → u ≡ pour (record { kind = 90; start = a; end = a + length s; line = 0; p = k; q = q; bits = 0 } ∷ []) v
+        → Front (unlinedBlock a s) t u
+    block-refused t v u l z = rw refused-row (front-one _ t v u l z)
+
+  module _ (n : ℕ) (i : m ≡ Scan.Whole n) where
+    was-whole : (rs : List Row) × (partAt a 1 s ≡ accepted rs) × (map (withLine 0) rs ≡ unlinedBlock a s) × (n ≡ length rs)
+    unfolding unlinedBlock blockRows scanAnswer
+    was-whole = go (part s) refl (sym i ∙ e ∙ ap scanAnswer block-moved)
+      where
+        go : (w : Reading) → part s ≡ w → Scan.Whole n ≡ scanAnswer (movedReading a 0 w)
+            → (rs : List Row) × (partAt a 1 s ≡ accepted rs) × (map (withLine 0) rs ≡ map (withLine 0) (blockRows a 0 (length s) (part s))) × (n ≡ length rs)
+        go (accepted rs) f z = (moved a 0 rs, block-moved ∙ ap (movedReading a 0) f, rw f, cc)
+        go (denied j p) f z = absurd (let y : _≡_ {A = ℕ} 0 1 = cc in omega arith)
+
+    pub block-whole : n ≡ length (unlinedBlock a s)
+    block-whole = was-whole .3 ∙ sym (length-map (was-whole .0) (withLine 0)) ∙ ap length (was-whole .2)
+
+    pub block-rows : (t u : List ℕ) → ScanPoured (partAt a 1 s) t u → Front (unlinedBlock a s) t u
+    block-rows t u p =
+        subst (λ rs. Front rs t u) (was-whole .2) (front-poured (map (withLine 0) (was-whole .0)) t u (subst (λ w. ScanPoured w t u) (was-whole .1) p))
+
+pub ruleset block-laws = (block-one, block-refused, block-whole, block-rows)

@@ -1,0 +1,10 @@
+pub mod BlockLaws
+pub mod CallLaws
+pub mod ReadingCut
+pub mod Tail
+pub mod Refusals
+pub mod BlockEnds
+pub mod BlockRows
+pub mod FrontLaws
+pub mod BlocksLaws
+pub mod RecoverLaws

@@ -1,0 +1,4 @@
+pub mod Recovering
+pub mod Demand3
+pub mod Examples
+pub mod steps

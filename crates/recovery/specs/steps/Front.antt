@@ -1,0 +1,22 @@
+-- Rows that stand at the front of a table, with no lines yet.
+use Prim.Native.Nat.{ℕ, _*_, _≤_}
+use mathlib.Core.List.{List, map}
+use mathlib.Core.Path.{_≡_}
+use lib.ListN.{length, take}
+use Rattle.row.specs.declared.table.Row.{Row}
+use Rattle.row.specs.Row.{rowsBytes}
+use Rattle.ledger.specs.Plain.{part}
+use Rattle.ledger.specs.steps.Scan.{withLine}
+use Rattle.recovery.specs.Recovering.{blockRows, recoverFrom}
+
+-- the rows of the block s at place a
+unfoldable pub unlinedBlock : ℕ → List ℕ → List Row
+unlinedBlock a s = map (withLine 0) (blockRows a 0 (length s) (part s))
+
+-- the rows of a ledger
+unfoldable pub unlined : List ℕ → List Row
+unlined s = map (withLine 0) (recoverFrom (length s) 0 0 s)
+
+-- u is the table t with the rows at its front, if it has room for all of them; what else stands there may be anything
+abbrev pub Front : List Row → List ℕ → List ℕ → Type 0
+Front rs t u = length rs * 32 ≤ length t → take (length rs * 32) u ≡ rowsBytes rs

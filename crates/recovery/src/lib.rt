@@ -1,0 +1,3 @@
+// Recovering reading.
+mod block;
+pub mod recover;

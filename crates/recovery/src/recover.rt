@@ -1,0 +1,59 @@
+// Recovering reading. The first pass, into no table, gives the need; the second writes.
+use crate::block;
+use ledger::read::Answer;
+use row::lines;
+use row::table;
+use row::table::WIDTH;
+ghost use mathlib.Core.Path.{_≡_};
+ghost use Prim.Native.Nat.{_/_, _≤_};
+ghost use lib.ListN.{length};
+ghost use Rattle.ledger.specs.Answers.{answer, left};
+ghost use Rattle.recovery.specs.Recovering.{recovered};
+ghost use Rattle.recovery.specs.steps.Front.{unlined, Front};
+
+// A ledger's bytes at the most (refusal 1).
+const SIZE: usize = 16_777_216;
+
+// Block by block: so many rows, which go to the table's front, where they all fit, with no lines yet. What stands behind them may change too.
+fn blocks(s: &[u8], table: &mut [u8]) -> usize
+    requires { ⌜ length (now s) ≤ 16777216 ⌝ }
+    ensures answer { λ r. ⌜ r ≡ length (unlined (now (s .entry))) ⌝ }
+    ensures rows { λ _. ⌜ Front (unlined (now (s .entry))) (now (table .entry)) (now (table .exit)) ⌝ }
+{
+    let mut at = 0;
+    let mut n = 0;
+    while at < s.len() {
+        let end = at + block::block_length(&s[at..]);
+        let k = table::place(n, table.len());
+        n += block::block(&s[at..end], at, &mut table[k..]);
+        at = end;
+    }
+    n
+}
+
+// Recovering reading of a ledger into a row table. A refusal leaves every byte of the table.
+pub fn recover(ledger: &[u8], table: &mut [u8]) -> Answer
+    ensures answer { λ r. ⌜ r ≡ answer (recovered (now (ledger .entry))) (length (now (table .entry)) / 32) ⌝ }
+    ensures rows { λ _. ⌜ now (table .exit) ≡ left (recovered (now (ledger .entry))) (now (table .entry)) ⌝ }
+{
+    if SIZE < ledger.len() {
+        return Answer::Refusal {
+            number: 1,
+            place: 0,
+            count: 0,
+        };
+    }
+    let mut none = [0u8; 1];
+    let n = blocks(ledger, &mut none);
+    if table.len() / WIDTH < n {
+        return Answer::Refusal {
+            number: 9,
+            place: 0,
+            count: n,
+        };
+    }
+    let end = n * WIDTH;
+    blocks(ledger, &mut table[0..end]);
+    lines::set_lines(ledger, table, n);
+    Answer::Rows(n)
+}
