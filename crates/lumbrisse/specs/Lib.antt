@@ -1,4 +1,5 @@
 pub mod Numbers
+pub mod Promises
 pub mod Asked
 pub mod Edges
 pub mod Easy

@@ -1,10 +1,10 @@
-// Answers as document 01's numbers. An export gives back numbers by value, so there is one such struct for each form of answer.
+// Answers as document 01's numbers. An export gives back numbers by value: a struct for each form of answer.
 use access::content::Content;
 use access::single;
 use access::tables::Force;
 use ledger::read::Answer;
 ghost use mathlib.Core.Path.{_≡_};
-ghost use Rattle.lumbrisse.specs.Numbers.{replyOf, contentReply, forceReply, evaluatedOf};
+ghost use Rattle.lumbrisse.specs.Numbers.{replied, replyOf, contentReply, forceReply, evaluatedOf};
 
 // Number 0: accepted. What an answer has not is 0.
 #[repr(C)]
@@ -29,24 +29,26 @@ pub struct Part {
     pub length: usize,
 }
 
+fn replied(number: usize, place: usize, count: usize) -> Reply
+    ensures { λ r. ⌜ r ≡ replied number place count ⌝ }
+{
+    Reply {
+        number,
+        place,
+        count,
+    }
+}
+
 pub fn reply_of(a: Answer) -> Reply
     ensures { λ r. ⌜ r ≡ replyOf a ⌝ }
 {
     match a {
-        Answer::Rows(count) => Reply {
-            number: 0,
-            place: 0,
-            count,
-        },
+        Answer::Rows(count) => replied(0, 0, count),
         Answer::Refusal {
             number,
             place,
             count,
-        } => Reply {
-            number,
-            place,
-            count,
-        },
+        } => replied(number, place, count),
     }
 }
 
@@ -54,16 +56,8 @@ pub fn content_reply(a: Content) -> Reply
     ensures { λ r. ⌜ r ≡ contentReply a ⌝ }
 {
     match a {
-        Content::Bytes(count) => Reply {
-            number: 0,
-            place: 0,
-            count,
-        },
-        Content::Refusal(number, count) => Reply {
-            number,
-            place: 0,
-            count,
-        },
+        Content::Bytes(count) => replied(0, 0, count),
+        Content::Refusal(number, need) => replied(number, 0, need),
     }
 }
 
@@ -71,21 +65,9 @@ pub fn force_reply(a: Force) -> Reply
     ensures { λ r. ⌜ r ≡ forceReply a ⌝ }
 {
     match a {
-        Force::Yes => Reply {
-            number: 0,
-            place: 0,
-            count: 1,
-        },
-        Force::Not => Reply {
-            number: 0,
-            place: 0,
-            count: 0,
-        },
-        Force::Refusal(number) => Reply {
-            number,
-            place: 0,
-            count: 0,
-        },
+        Force::Yes => replied(0, 0, 1),
+        Force::Not => replied(0, 0, 0),
+        Force::Refusal(number) => replied(number, 0, 0),
     }
 }
 
@@ -93,9 +75,9 @@ pub fn evaluated_of(a: single::Evaluated) -> Evaluated
     ensures { λ r. ⌜ r ≡ evaluatedOf a ⌝ }
 {
     match a {
-        single::Evaluated::Read(place, value) => Evaluated {
+        single::Evaluated::Read(stop, value) => Evaluated {
             number: 0,
-            place,
+            place: stop,
             bits: decimal::row_bits(value),
         },
         single::Evaluated::Refusal(number, place) => Evaluated {

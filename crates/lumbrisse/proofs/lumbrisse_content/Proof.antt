@@ -14,7 +14,7 @@ same-length : tie.Need-same-length
 same-length c = search needs
 
 returns : tie.Need-returns
-returns c = (c .content-reply .ensures ∙ ap contentReply (c .before .before .before .unescape .ensures .0), c .before .before .before .unescape .ensures .1)
+returns c = record { reply = c .content-reply .ensures ∙ ap contentReply (c .before .before .before .unescape .ensures .0); bytes = c .before .before .before .unescape .ensures .1 }
 
 pub lumbrisse-content-spec : {M : Type 1} → statement M
 lumbrisse-content-spec =

@@ -14,7 +14,7 @@ same-length : tie.Need-same-length
 same-length c = search needs
 
 returns : tie.Need-returns
-returns c = (c .reply-of .ensures ∙ ap replyOf (c .before .before .before .read .ensures .0), c .before .before .before .read .ensures .1)
+returns c = record { reply = c .reply-of .ensures ∙ ap replyOf (c .before .before .before .read .ensures .0); rows = c .before .before .before .read .ensures .1 }
 
 pub lumbrisse-read-spec : {M : Type 1} → statement M
 lumbrisse-read-spec = tie.close (tie.spec read-requires reply-of-requires same-length returns)

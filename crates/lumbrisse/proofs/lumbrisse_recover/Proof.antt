@@ -14,7 +14,7 @@ same-length : tie.Need-same-length
 same-length c = search needs
 
 returns : tie.Need-returns
-returns c = (c .reply-of .ensures ∙ ap replyOf (c .before .before .before .recover .ensures .0), c .before .before .before .recover .ensures .1)
+returns c = record { reply = c .reply-of .ensures ∙ ap replyOf (c .before .before .before .recover .ensures .0); rows = c .before .before .before .recover .ensures .1 }
 
 pub lumbrisse-recover-spec : {M : Type 1} → statement M
 lumbrisse-recover-spec = tie.close (tie.spec recover-requires reply-of-requires same-length returns)

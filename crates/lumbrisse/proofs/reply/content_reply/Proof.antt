@@ -6,8 +6,14 @@ use Rattle.lumbrisse.proofs.reply.content_reply.Tie as tie
 enum-known-a : tie.Need-enum-known-a
 enum-known-a c = search (needs, number-laws)
 
+replied-requires : tie.Need-replied-requires
+replied-requires c κs = search (needs, number-laws)
+
 enum-known-a-2 : tie.Need-enum-known-a-2
 enum-known-a-2 c = search (needs, number-laws)
+
+replied-requires-2 : tie.Need-replied-requires-2
+replied-requires-2 c κs = search (needs, number-laws)
 
 returns : tie.Need-returns
 returns c = search (needs, number-laws)
@@ -16,4 +22,6 @@ returns-2 : tie.Need-returns-2
 returns-2 c = search (needs, number-laws)
 
 pub content-reply-spec : {M : Type 1} → statement M
-content-reply-spec = tie.close (tie.spec enum-known-a enum-known-a-2 returns returns-2)
+content-reply-spec =
+    tie.close
+    (tie.spec enum-known-a replied-requires enum-known-a-2 replied-requires-2 returns returns-2)

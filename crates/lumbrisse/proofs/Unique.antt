@@ -1,0 +1,62 @@
+-- Each export's promise fixes its answer: two answers that meet it are equal, with every lent byte; and for every input there is one.
+use Prim.Native.Nat.{ℕ, _/_}
+use mathlib.Core.Path.{_≡_, refl, sym, _∙_}
+use mathlib.Core.Bool.{Bool, true, false}
+use mathlib.Core.List.{List}
+use lib.ListN.{length, take, drop}
+use Rattle.row.specs.Row.{width}
+use Rattle.ledger.specs.Plain.{Reading}
+use Rattle.ledger.specs.Answers.{answer, left}
+use Rattle.access.specs.Single.{evaluated}
+use Rattle.access.specs.Contents.{contentAnswer, contentLeft}
+use Rattle.access.specs.Spans.{goodSpan, spanText}
+use Rattle.access.specs.Tables.{inForce}
+use Rattle.lumbrisse.specs.declared.reply.Reply.{Reply}
+use Rattle.lumbrisse.specs.declared.reply.Evaluated.{Evaluated}
+use Rattle.lumbrisse.specs.declared.reply.Part.{Part}
+use Rattle.lumbrisse.specs.Numbers.{replyOf, contentReply, forceReply, evaluatedOf, partOf}
+use Rattle.lumbrisse.specs.Promises.{TablePromise, ContentPromise, ExpressionPromise, TagPromise, SpanPromise}
+
+-- both are what is defined
+pub same-defined : {A : Type 0} {x r q : A} → r ≡ x → q ≡ x → r ≡ q
+same-defined e f = e ∙ sym f
+
+-- ---- two answers to one call; a table is that of plain and of recovering reading
+
+pub table-unique : {x : Reading} {t u v : List ℕ} {r q : Reply} → TablePromise x t r u → TablePromise x t q v → (r ≡ q) × (u ≡ v)
+table-unique a b = (same-defined (a .reply) (b .reply), same-defined (a .rows) (b .rows))
+
+pub content-unique : {c t u v : List ℕ} {r q : Reply} → ContentPromise c t r u → ContentPromise c t q v → (r ≡ q) × (u ≡ v)
+content-unique a b = (same-defined (a .reply) (b .reply), same-defined (a .bytes) (b .bytes))
+
+pub expression-unique : (s : List ℕ) {r q : Evaluated} → ExpressionPromise s r → ExpressionPromise s q → r ≡ q
+expression-unique s a b = same-defined a b
+
+pub tag-unique : (s t : List ℕ) (k : ℕ) (tag : List ℕ) {r q : Reply} → TagPromise s t k tag r → TagPromise s t k tag q → r ≡ q
+tag-unique s t k tag a b = same-defined a b
+
+pub span-unique : {s : List ℕ} {a e : ℕ} {r q : Part} → SpanPromise s a e r → SpanPromise s a e q → r ≡ q
+span-unique a b = same-defined (a .part) (b .part)
+
+-- ---- an answer to every call
+
+pub table-total : (x : Reading) (t : List ℕ) → (r : Reply) × ((u : List ℕ) × TablePromise x t r u)
+table-total x t = (replyOf (answer x (length t / width)), (left x t, record { reply = refl; rows = refl }))
+
+pub content-total : (c t : List ℕ) → (r : Reply) × ((u : List ℕ) × ContentPromise c t r u)
+content-total c t = (contentReply (contentAnswer c (length t)), (contentLeft c t, record { reply = refl; bytes = refl }))
+
+pub expression-total : (s : List ℕ) → (r : Evaluated) × ExpressionPromise s r
+expression-total s = (evaluatedOf (evaluated s), refl)
+
+pub tag-total : (s t : List ℕ) (k : ℕ) (tag : List ℕ) → (r : Reply) × TagPromise s t k tag r
+tag-total s t k tag = (forceReply (inForce s t k tag), refl)
+
+-- a part that is the defined one holds the span's text
+pub part-text : (s : List ℕ) (a e : ℕ) (good : Bool) → goodSpan s a e ≡ good → take (partOf s a e .length) (drop (partOf s a e .start) s) ≡ spanText s a e
+unfolding partOf spanText
+part-text s a e true g = rw g
+part-text s a e false g = rw g
+
+pub span-total : (s : List ℕ) (a e : ℕ) → (r : Part) × SpanPromise s a e r
+span-total s a e = (partOf s a e, record { part = refl; text = part-text s a e (goodSpan s a e) refl })

@@ -1,0 +1,37 @@
+-- What each export promises for every input: its answer r, and every lent byte u afterwards.
+use Prim.Native.Nat.{ℕ, _/_}
+use mathlib.Core.Path.{_≡_}
+use mathlib.Core.List.{List}
+use lib.ListN.{length, take, drop}
+use Rattle.row.specs.Row.{width}
+use Rattle.ledger.specs.Plain.{Reading}
+use Rattle.ledger.specs.Answers.{answer, left}
+use Rattle.access.specs.Single.{evaluated}
+use Rattle.access.specs.Contents.{contentAnswer, contentLeft}
+use Rattle.access.specs.Tables.{inForce}
+use Rattle.access.specs.Spans.{spanText}
+use Rattle.lumbrisse.specs.declared.reply.Reply.{Reply}
+use Rattle.lumbrisse.specs.declared.reply.Evaluated.{Evaluated}
+use Rattle.lumbrisse.specs.declared.reply.Part.{Part}
+use Rattle.lumbrisse.specs.Numbers.{replyOf, contentReply, forceReply, evaluatedOf, partOf}
+
+-- a reading of a ledger into a table t
+pub record TablePromise (reading : Reading) (t : List ℕ) (r : Reply) (u : List ℕ) : Type 0 where
+  pub reply : r ≡ replyOf (answer reading (length t / width))
+  pub rows : u ≡ left reading t
+
+-- content c into a buffer t
+pub record ContentPromise (c t : List ℕ) (r : Reply) (u : List ℕ) : Type 0 where
+  pub reply : r ≡ contentReply (contentAnswer c (length t))
+  pub bytes : u ≡ contentLeft c t
+
+abbrev pub ExpressionPromise : List ℕ → Evaluated → Type 0
+ExpressionPromise s r = r ≡ evaluatedOf (evaluated s)
+
+abbrev pub TagPromise : List ℕ → List ℕ → ℕ → List ℕ → Reply → Type 0
+TagPromise s t k tag r = r ≡ forceReply (inForce s t k tag)
+
+-- a span from a to e of a ledger s: the part is the span's text
+pub record SpanPromise (s : List ℕ) (a e : ℕ) (r : Part) : Type 0 where
+  pub part : r ≡ partOf s a e
+  pub text : take (r .length) (drop (r .start) s) ≡ spanText s a e
