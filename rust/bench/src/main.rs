@@ -1,0 +1,113 @@
+//! Measures the reader beside the crate beancount-parser 2.6.0, in one run on the same bytes.
+//!
+//! ```text
+//! bench --oracle DIR [--plugin FILE] LEDGER[=LIMIT]..     instructions and time on ledgers, beside the crate
+//! bench --growth [--plugin FILE]                          instructions on hostile inputs of 1, 2, 4 and 8 MB
+//! bench --once read|recover LEDGER N                      reads N times: the least time in seconds, and the answer
+//! ```
+//!
+//! DIR is the oracle's folder (or the variable ORACLE), with the program `both` of the differential run. Instructions are counted by
+//! `perf stat` where the machine permits it, else by valgrind's callgrind; with `--plugin`, by a counting plugin of qemu. LIMIT is the
+//! most instructions for a byte that plain reading may take. The tables are in Markdown. Ends with 1 where a limit is not kept: that one,
+//! half of the crate's for recovering reading, or 2.1 times the instructions for twice the bytes of a hostile input.
+
+#![deny(unsafe_code, missing_docs)]
+#![deny(
+    clippy::unwrap_used,
+    clippy::expect_used,
+    clippy::panic,
+    clippy::indexing_slicing
+)]
+
+mod counter;
+mod hostile;
+mod once;
+mod report;
+mod scratch;
+
+use std::io;
+use std::path::PathBuf;
+use std::process::ExitCode;
+
+use report::{Bench, Ledger};
+
+const USAGE: &str =
+    "usage: bench --oracle DIR [--plugin FILE] LEDGER[=LIMIT].. | bench --growth [--plugin FILE] | bench --once read|recover LEDGER N";
+
+fn usage() -> io::Error {
+    io::Error::other(USAGE)
+}
+
+/// A ledger's path, and behind `=` the most instructions for a byte.
+fn ledger(word: &str) -> Ledger {
+    match word
+        .rsplit_once('=')
+        .map(|(path, limit)| (path, limit.parse().ok()))
+    {
+        Some((path, Some(limit))) => Ledger {
+            path: PathBuf::from(path),
+            limit: Some(limit),
+        },
+        _ => Ledger {
+            path: PathBuf::from(word),
+            limit: None,
+        },
+    }
+}
+
+fn measure(words: &[String]) -> io::Result<bool> {
+    let mut oracle = std::env::var_os("ORACLE").map(PathBuf::from);
+    let (mut plugin, mut growth, mut ledgers) = (None, false, Vec::new());
+    let mut words = words.iter();
+    while let Some(word) = words.next() {
+        match word.as_str() {
+            "--oracle" => oracle = Some(words.next().ok_or_else(usage)?.into()),
+            "--plugin" => plugin = Some(words.next().ok_or_else(usage)?.into()),
+            "--growth" => growth = true,
+            _ => ledgers.push(ledger(word)),
+        }
+    }
+    let bench = Bench::new(plugin)?;
+    match (growth, oracle, ledgers.as_slice()) {
+        (true, _, []) => bench.growth(),
+        (false, Some(oracle), [_, ..]) => bench.ledgers(&oracle, &ledgers),
+        _ => Err(usage()),
+    }
+}
+
+fn run() -> io::Result<bool> {
+    let words: Vec<String> = std::env::args().skip(1).collect();
+    match words.as_slice() {
+        [once, call, file, count] if once == "--once" => {
+            once::once(call, file, count).map(|()| true)
+        }
+        _ => measure(&words),
+    }
+}
+
+fn main() -> ExitCode {
+    match run() {
+        Ok(true) => ExitCode::SUCCESS,
+        Ok(false) => ExitCode::FAILURE,
+        Err(error) => {
+            eprintln!("bench: {error}");
+            ExitCode::from(2)
+        }
+    }
+}
+
+#[cfg(test)]
+mod tests {
+    use super::ledger;
+
+    #[test]
+    fn a_limit_stands_behind_the_path() {
+        let found = ledger("a/b.beancount=58.5");
+        assert_eq!(
+            (found.path.to_str(), found.limit),
+            (Some("a/b.beancount"), Some(58.5))
+        );
+        let found = ledger("a=b");
+        assert_eq!((found.path.to_str(), found.limit), (Some("a=b"), None));
+    }
+}
