@@ -1,16 +1,16 @@
 -- Laws by which the code of the table does what is asked.
 use mathlib.Core.Path.{_≡_, sym, ap, _∙_}
 use mathlib.Core.List.{List, [], _∷_, append-nil}
-use Prim.Native.Nat.{ℕ, _-_, _<_, _≤_}
+use Prim.Native.Nat.{ℕ, _+_, _-_, _*_, _/_, _<_, _≤_}
 use native.Mathlib.Omega.{arith}
 use borrow.Author.Tests.{le-leb, lt-leb}
 use borrow.Rule.Slice.PartMut.{putMid}
-use lib.ListN.{length, take, drop, drop-of-length-le, length-drop}
+use lib.ListN.{length, take, drop, drop-of-length-le, length-take, length-drop}
 use lib.Seq.{take-all, sets, sets-eq}
 use Rattle.row.specs.Field.{le, un, fieldAt}
 use Rattle.row.specs.Row.{rowBytes, pour, placeOf, pourAt}
 use Rattle.row.specs.declared.table.Row.{Row}
-use Rattle.row.proofs.PourLaws.{length-rowBytes, pour-short, pour-fits, pour-none, head-last}
+use Rattle.row.proofs.PourLaws.{length-rowBytes, pour-short, pour-fits, pour-none, pourAt-at, pourAt-full, head-last}
 
 -- ---- a field that is read, or is not all in the table
 
@@ -45,6 +45,32 @@ row-put r t h ea eb ec ed ee ef eg = rw (eg, ef, ee, ed, ec, eb, ea) (row-sets r
 pub row-none : (rs : List Row) (t : List ℕ) → length t < 32 → t ≡ pour rs t
 row-none rs t h = sym (pour-short rs t h)
 
+-- row n alone, lent on
+pub row-lent : (n : ℕ) (r : Row) (t : List ℕ) {e : ℕ} {m : List ℕ} → n < length t / 32 → e ≡ n * 32 + 32
+    → m ≡ pour (r ∷ []) (take (e - n * 32) (drop (n * 32) t)) → putMid (n * 32) (e - n * 32) t m ≡ pourAt n (r ∷ []) t
+row-lent n r t h ee em =
+    let w : n * 32 + 32 - n * 32 ≡ 32 = omega arith in
+    let l : n * 32 ≤ length t = omega arith in
+    let y = drop (n * 32) t in
+    let ly : 32 ≤ length y = rw length-drop (omega arith) in
+    let lz : length (take 32 y) ≡ 32 = rw length-take (omega arith) in
+    let ez : drop 32 (take 32 y) ≡ [] = drop-of-length-le (take 32 y) {i = 32} (rw lz (omega arith)) in
+    rw (
+      em,
+      ee,
+      w,
+      pour-fits r [] (take 32 y) (rw lz (omega arith)),
+      ez,
+      pour-none,
+      append-nil,
+      pourAt-at n (r ∷ []) t l,
+      pour-fits r [] y ly,
+      pour-none,
+    )
+
+pub row-full : (n : ℕ) (r : Row) (t : List ℕ) → length t / 32 ≤ n → t ≡ pourAt n (r ∷ []) t
+row-full n r t h = sym (pourAt-full n (r ∷ []) t h)
+
 -- ---- the rest of a table, lent on from row n
 
 pub lent-on : (n : ℕ) (rs : List Row) (t : List ℕ) {a : ℕ} {m : List ℕ} → a ≡ placeOf n (length t)
@@ -65,4 +91,4 @@ pub head-and-rest : (r : Row) (rs : List Row) (t : List ℕ) {k : ℕ} {m u : Li
     → m ≡ pour rs (take (length t - k) (drop k t)) → u ≡ pour (r ∷ []) (putMid k (length t - k) t m) → u ≡ pour (r ∷ rs) t
 head-and-rest r rs t ek em eu = eu ∙ ap (pour (r ∷ [])) (lent-on 1 rs t ek em) ∙ head-last r rs t
 
-pub ruleset rows = (row-put, row-none, lent-on)
+pub ruleset rows = (row-put, row-none, row-lent, row-full)

@@ -54,12 +54,14 @@ pub fn put_front(t: &mut [u8], r: Row)
     field::put_four(t, 28, bits / 4294967296);
 }
 
-// One row as row n: the rest of the table, from there, is lent on.
+// One row as row n, where it fits: only its own bytes are lent on, so that their room is not looked at again.
 pub fn put_row(t: &mut [u8], n: usize, r: Row)
     ensures { λ _. ⌜ now (t .exit) ≡ pourAt n (r ∷ []) (now (t .entry)) ⌝ }
 {
-    let at = place(n, t.len());
-    put_front(&mut t[at..], r);
+    if n < t.len() / WIDTH {
+        let at = n * WIDTH;
+        put_front(&mut t[at..at + WIDTH], r);
+    }
 }
 
 // The number in the `width` bytes at `at`, or 0 where they are more than eight or not all in the table.

@@ -3,8 +3,11 @@ use borrow.Author.Needs.{needs}
 use Rattle.row.proofs.table.put_row.Statement.{statement}
 use Rattle.row.proofs.table.put_row.Tie as tie
 
-place-requires : tie.Need-place-requires
-place-requires c κs = search (needs, rows)
+mul-at : tie.Need-mul-at
+mul-at c = search (needs, rows)
+
+add-put-front : tie.Need-add-put-front
+add-put-front c = search (needs, rows)
 
 sub-put-front : tie.Need-sub-put-front
 sub-put-front c = search (needs, rows)
@@ -24,14 +27,19 @@ same-length c = search (needs, rows)
 returns : tie.Need-returns
 returns c = search (needs, rows)
 
+returns-2 : tie.Need-returns-2
+returns-2 c = search (needs, rows)
+
 pub put-row-spec : {M : Type 1} → statement M
 put-row-spec =
     tie.close
     (tie.spec
-    place-requires
+    mul-at
+    add-put-front
     sub-put-front
     part-put-front-start
     part-put-front-end
     put-front-requires
     same-length
-    returns)
+    returns
+    returns-2)
