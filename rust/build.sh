@@ -19,12 +19,15 @@ fail() {
     exit 2
 }
 
-# Runs a command with what it writes in the log, and shows the log's end where the command fails.
-logged() {
+# step WHAT COMMAND..: says what is done and runs the command with what it writes in the log, whose end is shown where the command fails.
+step() {
+    say "$1"
+    what=$1
+    shift
     mkdir -p "$root/target"
     "$@" >"$log" 2>&1 && return
     tail -n 40 "$log" >&2
-    fail "failed: $* (all of it: $log)"
+    fail "failed: $what (all of it: $log)"
 }
 
 # Whether a built file is missing, or older than a file that it is built from.
@@ -61,13 +64,12 @@ install_cross() {
     if [ "$(id -u)" -ne 0 ]; then
         fail "on $(uname -m) run as root, once: dpkg --add-architecture amd64 && apt-get update && apt-get install $(cross_packages)"
     fi
-    logged dpkg --add-architecture amd64
-    logged apt-get update
+    step "adding Debian's packages for x86-64" dpkg --add-architecture amd64
+    step "looking which there are" apt-get update
     packages=$(cross_packages)
-    say "installing $packages"
     # the names are words
     # shellcheck disable=SC2086
-    logged env DEBIAN_FRONTEND=noninteractive apt-get install -y $packages
+    step "installing $packages" env DEBIAN_FRONTEND=noninteractive apt-get install -y $packages
 }
 
 # On this processor: what a built program is run by, where cargo puts it, cargo itself, and whether that is there.
