@@ -173,7 +173,7 @@ fn expressions_are_evaluated() {
     assert_eq!((status, out.as_str(), err.as_str()), (0, "3\n", ""));
 
     let Ran { status, out, .. } = run(&["eval", "--json", "1/8 KWH"]);
-    let object = "{\"expression\":\"1/8 KWH\",\"accepted\":true,\"value\":\"0.125\",\"millionths\":125000,\"stop\":3}\n";
+    let object = "{\"file\":\"<expression>\",\"accepted\":true,\"expression\":\"1/8 KWH\",\"value\":\"0.125\",\"millionths\":125000,\"stop\":3}\n";
     assert_eq!((status, out.as_str()), (0, object));
 
     let Ran { status, out, err } = run(&["eval", "1/3"]);

@@ -49,11 +49,12 @@ pub fn refused(out: &mut impl Write, source: &Source, refusal: Refusal) -> io::R
 
 /// The value of an expression.
 pub fn evaluated(out: &mut impl Write, source: &Source, found: Evaluated) -> io::Result<()> {
+    let file = quoted(source.name.as_bytes());
     let text = quoted(&source.bytes);
     let value = Millionths(found.value);
     writeln!(
         out,
-        "{{\"expression\":{text},\"accepted\":true,\"value\":\"{value}\",\"millionths\":{},\"stop\":{}}}",
+        "{{\"file\":{file},\"accepted\":true,\"expression\":{text},\"value\":\"{value}\",\"millionths\":{},\"stop\":{}}}",
         found.value, found.stop
     )
 }
