@@ -15,9 +15,15 @@ use Rattle.entry.proofs.EntryLines.{Each, OnLine}
 use Rattle.ledger.specs.Plain.{accepted}
 use Rattle.ledger.specs.Answers.{left}
 use Rattle.ledger.specs.steps.Scan.{withLine}
-use Rattle.ledger.proofs.PlainLaws.{Kept, lined-again}
+use Rattle.ledger.proofs.PlainLaws.{Kept}
 
 module _ (s : List ℕ) where
+  -- a line that is set does not see what stood there before
+  lined-again : (l : ℕ) (rs : List Row) → map (lined s) (map (withLine l) rs) ≡ map (lined s) rs
+  unfolding lined
+  lined-again l [] = refl
+  lined-again l (r ∷ rs) = rw (lined-again l rs)
+
   line-of : (r : Row) → OnLine 0 1 s r → 1 + feeds (take (r .start) s) ≡ r .line
   line-of r h = ap (λ k. 1 + feeds (take k s)) (h .place ∙ zero-add (h .into)) ∙ sym (h .lines)
 
@@ -37,4 +43,4 @@ module _ (s : List ℕ) where
       let n : length rs ≡ length (map (withLine 0) rs) = sym (length-map rs (withLine 0)) in
       ap (λ k. linesSet s k (pour (map (withLine 0) rs) t)) n
       ∙ lines-poured s (map (withLine 0) rs) t (rows-low rs l (k .lines))
-      ∙ rw (lined-again s 0 rs, rows-lined rs (k .lines), pour-room rs t h, le-leb (length rs) (length t / 32) h)
+      ∙ rw (lined-again 0 rs, rows-lined rs (k .lines), pour-room rs t h, le-leb (length rs) (length t / 32) h)

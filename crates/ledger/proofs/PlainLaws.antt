@@ -10,13 +10,13 @@ use lib.ListN.{length, take, drop, length-append, length-map, take-append-drop}
 use lib.Seq.{length-take-le, take-append-le, take-append-add}
 use Rattle.text.specs.Permitted.{clean}
 use Rattle.row.specs.declared.table.Row.{Row}
-use Rattle.row.specs.Row.{feeds, lined}
+use Rattle.row.specs.Row.{feeds}
+use Rattle.row.proofs.LineLaws.{feeds-append}
 use Rattle.entry.specs.Entry.{Reads, got, refuse, entryOf}
 use Rattle.entry.proofs.EntryForms.{entry-sound}
 use Rattle.entry.proofs.EntryFew.{entry-few}
 use Rattle.entry.proofs.EntryLines.{Each, OnLine, entry-lines}
 use Rattle.ledger.specs.Plain.{move, moved, Reading, accepted, denied, after, readFrom, partAt, part}
-use Rattle.ledger.specs.steps.Scan.{withLine}
 
 -- ---- one entry of a reading
 
@@ -37,11 +37,6 @@ read-refuse f a l [] k p h e = absurd (omega arith)
 read-refuse f a l (b ∷ s) k p h e = rw (e, readFrom)
 
 -- ---- rows of a text that starts at place a and line l
-
-pub feeds-append : (u v : List ℕ) → feeds (u ++ v) ≡ feeds u + feeds v
-unfolding feeds
-feeds-append [] v = rw zero-add
-feeds-append (b ∷ u) v = rw (feeds-append u v, add-assoc)
 
 pub record Kept (a l : ℕ) (s : List ℕ) (rs : List Row) : Type 0 where
   pub few : length rs ≤ length s
@@ -130,22 +125,3 @@ part-kept s rs e = subst (Accepts (Kept 0 1 s)) e (part-at-kept 0 1 s)
 
 pub part-few : (s : List ℕ) (rs : List Row) → part s ≡ accepted rs → length rs ≤ length s
 part-few s rs e = part-kept s rs e .few
-
--- ---- lines that are set when all rows are there
-
--- they do not see what stood there before
-pub lined-again : (s : List ℕ) (l : ℕ) (rs : List Row) → map (lined s) (map (withLine l) rs) ≡ map (lined s) rs
-unfolding lined
-lined-again s l [] = refl
-lined-again s l (r ∷ rs) = rw (lined-again s l rs)
-
-pub part-lined : (s : List ℕ) (rs : List Row) → part s ≡ accepted rs → map (lined s) rs ≡ rs
-unfolding lined
-part-lined s rs e = each rs (part-kept s rs e .lines)
-  where
-    line : (r : Row) → OnLine 0 1 s r → 1 + feeds (take (r .start) s) ≡ r .line
-    line r h = ap (λ k. 1 + feeds (take k s)) (h .place ∙ zero-add (h .into)) ∙ sym (h .lines)
-
-    each : (rs : List Row) → Each (OnLine 0 1 s) rs → map (lined s) rs ≡ rs
-    each [] h = refl
-    each (r ∷ rs) (h, hs) = rw (line r h, each rs hs)

@@ -12,42 +12,24 @@ use Rattle.row.specs.declared.table.Row.{Row}
 use Rattle.row.specs.Row.{pour, rowsBytes}
 use Rattle.row.specs.steps.Writing.{Poured}
 use Rattle.row.specs.steps.Sweep.{linesSet}
-use Rattle.row.proofs.PourLaws.{pour-room, pour-all, pour-append, pourAt-full, pourAt-zero, length-pour}
-use Rattle.row.proofs.SweepLaws.{Low, lines-poured}
-use Rattle.entry.proofs.EntryLines.{Each, OnLine}
-use Rattle.ledger.specs.Plain.{Reading, accepted, denied, partAt, part, plain}
+use Rattle.row.proofs.PourLaws.{pour-all, pour-append, pourAt-full, pourAt-zero, length-pour}
+use Rattle.ledger.specs.Plain.{Reading, accepted, denied, partAt, plain}
 use Rattle.ledger.specs.Answers.{answer, left}
 use Rattle.ledger.specs.steps.Scan.{withLine, scanned, scanAnswer, ScanPoured}
 use Rattle.ledger.specs.declared.read.Answer.{Answer}
 use Rattle.ledger.specs.declared.scan.Scan.{Scan}
-use Rattle.ledger.proofs.PlainLaws.{part-kept, part-lined, lined-again}
+use Rattle.ledger.proofs.PlainLaws.{part-kept}
+use Rattle.ledger.proofs.PartLaws.{part-scanned}
+use Rattle.ledger.proofs.LinedRows.{lines-left}
 
 -- ---- a ledger whose bytes may all stand
 
-part-scanned : (s : List ℕ) → length s ≤ clean s → part s ≡ scanned 0 s
-unfolding partAt scanned
-part-scanned s c = rw (le-ltb (clean s) (length s) c)
-
 plain-scanned : (s : List ℕ) → length s ≤ 16777216 → length s ≤ clean s → plain s ≡ scanned 0 s
 unfolding plain
-plain-scanned s l c = rw (le-leb (length s) 16777216 l) (part-scanned s c)
+plain-scanned s l c = rw (le-leb (length s) 16777216 l) (part-scanned 0 s c)
 
--- ---- rows that are poured with no line, and then get their lines
+-- ---- rows into the part of a table that they fill: none fits behind them
 
-low-rows : (s : List ℕ) (rs : List Row) → length s ≤ 16777216 → Each (OnLine 0 1 s) rs → Low (map (withLine 0) rs)
-low-rows s [] l h = tt
-low-rows s (r ∷ rs) l (h, hs) = (omega (arith, h .place, h .inside), low-rows s rs l hs)
-
-lines-left : (s : List ℕ) (rs : List Row) (t : List ℕ) → part s ≡ accepted rs → length s ≤ 16777216 → length rs ≤ length t / 32
-    → linesSet s (length rs) (pour (map (withLine 0) rs) t) ≡ left (accepted rs) t
-unfolding left
-lines-left s rs t e l h =
-    let n : length rs ≡ length (map (withLine 0) rs) = sym (length-map rs (withLine 0)) in
-    ap (λ k. linesSet s k (pour (map (withLine 0) rs) t)) n
-    ∙ lines-poured s (map (withLine 0) rs) t (low-rows s rs l (part-kept s rs e .lines))
-    ∙ rw (lined-again s 0 rs, part-lined s rs e, pour-room rs t h, le-leb (length rs) (length t / 32) h)
-
--- rows into the part of a table that they fill: none fits behind them
 filled : (n : ℕ) (rs : List Row) (t v : List ℕ) → n ≡ length rs → n ≤ length t / 32 → Poured 0 rs (take (n * 32) (drop 0 t)) v → putMid 0 (n * 32) t v ≡ pour rs t
 filled n rs t v e h (xs, p) =
     let a = take (n * 32) t in
@@ -100,7 +82,7 @@ module _ (s : List ℕ) (n : ℕ) (l : length s ≤ 16777216) (c : length s ≤ 
         ∙ ap (λ k. linesSet s n (putMid 0 k t v)) z
         ∙ ap (linesSet s n) (filled n (map (withLine 0) rs) t v (was-whole .2 ∙ sym (length-map rs (withLine 0))) h y)
         ∙ ap (λ k. linesSet s k (pour (map (withLine 0) rs) t)) (was-whole .2)
-        ∙ lines-left s rs t (part-scanned s c ∙ was-whole .1) l room
+        ∙ lines-left s rs t (part-kept s rs (part-scanned 0 s c ∙ was-whole .1)) l room
         ∙ ap (λ x. left x t) (sym plain-whole)
 
 pub ruleset written-laws = (written-full, written-none, written-rows, written-table)

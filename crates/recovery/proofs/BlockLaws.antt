@@ -15,7 +15,7 @@ use Rattle.row.specs.Strings.{isStart, cuts, holds}
 use Rattle.entry.proofs.EntryCut.{Ends}
 use Rattle.entry.proofs.HeldLaws.{start-zero}
 use Rattle.ledger.specs.Plain.{part}
-use Rattle.ledger.proofs.PlainLaws.{feeds-append}
+use Rattle.row.proofs.LineLaws.{feeds-append}
 use Rattle.recovery.specs.Recovering.{blockLength, blockRows, recoverFrom}
 
 -- ---- a block's length

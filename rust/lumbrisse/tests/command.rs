@@ -7,9 +7,20 @@ use std::process::{Command, Output, Stdio};
 const CLEAN: &str = "examples/clean.beancount";
 const DAMAGED: &str = "examples/building.beancount";
 
+/// What cargo runs this test by, where it was built for another processor.
+const RUNNER: &str = "CARGO_TARGET_X86_64_UNKNOWN_LINUX_GNU_RUNNER";
+
 /// The command, run at the repository's root.
 fn command(words: &[&str]) -> Command {
-    let mut command = Command::new(env!("CARGO_BIN_EXE_lumbrisse"));
+    let program = env!("CARGO_BIN_EXE_lumbrisse");
+    let mut command = match std::env::var_os(RUNNER) {
+        None => Command::new(program),
+        Some(emulator) => {
+            let mut command = Command::new(emulator);
+            command.arg(program);
+            command
+        }
+    };
     let root = Path::new(env!("CARGO_MANIFEST_DIR")).join("../..");
     command.current_dir(root).args(words);
     command
@@ -62,7 +73,8 @@ fn a_damaged_ledger_is_refused_with_its_line() {
         err,
         "examples/building.beancount:56:1: refusal 4: a required part of this entry is missing\n   \
          56 | 2024-03-31 * \"Office\" \"Flat 2, corrected by hand\n      \
-         | ^\n"
+         | ^\n      \
+         = this line has an odd number of quotes: one may have been left open\n"
     );
 }
 
@@ -81,6 +93,15 @@ fn recovering_names_the_block_and_keeps_the_rest() {
     let Ran { status, out, .. } = run(&["recover", CLEAN]);
     assert_eq!(status, 0);
     assert!(out.contains(": nothing refused, kept 49 entries,"), "{out}");
+}
+
+#[test]
+fn many_refused_blocks_are_named_without_delay() {
+    let ledger = b"2024-01-31\n".repeat(200_000);
+    let Ran { status, out, .. } = run_on(&ledger, &["recover", "-"]);
+    assert_eq!(status, 1);
+    assert!(out.contains("<stdin>:200000:1: refusal 4: "));
+    assert!(out.ends_with("<stdin>: 200000 blocks refused, kept 0 entries\n"));
 }
 
 #[test]
@@ -152,7 +173,7 @@ fn expressions_are_evaluated() {
     assert_eq!((status, out.as_str(), err.as_str()), (0, "3\n", ""));
 
     let Ran { status, out, .. } = run(&["eval", "--json", "1/8 KWH"]);
-    let object = "{\"expression\":\"1/8 KWH\",\"accepted\":true,\"value\":\"0.125\",\"millionths\":125000,\"stop\":3}\n";
+    let object = "{\"file\":\"<expression>\",\"accepted\":true,\"expression\":\"1/8 KWH\",\"value\":\"0.125\",\"millionths\":125000,\"stop\":3}\n";
     assert_eq!((status, out.as_str()), (0, object));
 
     let Ran { status, out, err } = run(&["eval", "1/3"]);

@@ -53,6 +53,7 @@ Refused, it says on standard error what is missing, with the line and a mark und
   FILE:12:1: refusal 4: a required part of this entry is missing
      12 | 2024-03-31 * \"open quote
         | ^
+        = this line has an odd number of quotes: one may have been left open
 
 Refusal 4 stands at the start of its entry. The usual causes: a quote that is not closed, an account
 of one part, a line with something left over.

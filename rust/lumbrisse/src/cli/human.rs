@@ -5,9 +5,11 @@ use std::io::{self, Write};
 use lumbrisse::{Kind, Refusal};
 
 use super::paint::Paint;
-use super::place;
+use super::place::{self, Known};
 use super::source::Source;
 use super::summary::{refused_blocks, Summary};
+
+const OPEN_QUOTE: &str = "this line has an odd number of quotes: one may have been left open";
 
 /// A ledger that plain reading accepted.
 pub fn accepted(
@@ -33,7 +35,7 @@ pub fn recovered(
     let mut blocks: usize = 0;
     for (row, refusal) in refused_blocks(table) {
         blocks = blocks.saturating_add(1);
-        refused(out, paint, source, refusal)?;
+        refused(out, paint, source, Known::of(&row), refusal)?;
         let first = row.line as usize;
         let last = place::last_line_of(row.text(&source.bytes), first);
         writeln!(out, "  refused block: {}\n", lines(first, last))?;
@@ -54,9 +56,10 @@ pub fn refused(
     out: &mut impl Write,
     paint: Paint,
     source: &Source,
+    known: Known,
     refusal: Refusal,
 ) -> io::Result<()> {
-    let at = place::of(&source.bytes, refusal.place);
+    let at = place::of(&source.bytes, known, refusal.place);
     let place = paint.bold(&format!("{}:{}:{}", source.name, at.line, at.column));
     let number = paint.red(&format!("refusal {}", refusal.number));
     let meaning = refusal.meaning();
@@ -67,6 +70,10 @@ pub fn refused(
         let mark = paint.red("^");
         writeln!(out, "{:>5} | {}", at.line, excerpt.text)?;
         writeln!(out, "{:>5} | {:2$}{mark}", "", "", excerpt.before)?;
+    }
+    // Refusal 4 stands at its entry's start, wherever the missing part is.
+    if refusal.number == 4 && place::has_odd_quotes(&source.bytes, refusal.place) {
+        writeln!(out, "{:>5} = {OPEN_QUOTE}", "")?;
     }
     Ok(())
 }

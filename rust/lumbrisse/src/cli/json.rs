@@ -5,7 +5,7 @@ use std::io::{self, Write};
 
 use lumbrisse::{Evaluated, Millionths, Refusal, Row, Rows};
 
-use super::place;
+use super::place::{self, Known};
 use super::source::Source;
 use super::summary::{refused_blocks, Summary};
 
@@ -29,7 +29,7 @@ pub fn recovered(out: &mut impl Write, source: &Source, table: &[u8]) -> io::Res
             out,
             "{{\"first_line\":{},\"last_line\":{last},\"refusal\":{}}}",
             row.line,
-            refusal_object(source, refusal)
+            refusal_object(source, Known::of(&row), refusal)
         )?;
     }
     write!(out, "],")?;
@@ -40,7 +40,7 @@ pub fn recovered(out: &mut impl Write, source: &Source, table: &[u8]) -> io::Res
 /// A call that was refused as a whole.
 pub fn refused(out: &mut impl Write, source: &Source, refusal: Refusal) -> io::Result<()> {
     let file = quoted(source.name.as_bytes());
-    let refusal = refusal_object(source, refusal);
+    let refusal = refusal_object(source, Known::START, refusal);
     writeln!(
         out,
         "{{\"file\":{file},\"accepted\":false,\"refusal\":{refusal}}}"
@@ -49,17 +49,18 @@ pub fn refused(out: &mut impl Write, source: &Source, refusal: Refusal) -> io::R
 
 /// The value of an expression.
 pub fn evaluated(out: &mut impl Write, source: &Source, found: Evaluated) -> io::Result<()> {
+    let file = quoted(source.name.as_bytes());
     let text = quoted(&source.bytes);
     let value = Millionths(found.value);
     writeln!(
         out,
-        "{{\"expression\":{text},\"accepted\":true,\"value\":\"{value}\",\"millionths\":{},\"stop\":{}}}",
+        "{{\"file\":{file},\"accepted\":true,\"expression\":{text},\"value\":\"{value}\",\"millionths\":{},\"stop\":{}}}",
         found.value, found.stop
     )
 }
 
-fn refusal_object(source: &Source, refusal: Refusal) -> String {
-    let at = place::of(&source.bytes, refusal.place);
+fn refusal_object(source: &Source, known: Known, refusal: Refusal) -> String {
+    let at = place::of(&source.bytes, known, refusal.place);
     format!(
         "{{\"number\":{},\"meaning\":{},\"place\":{},\"line\":{},\"column\":{},\"count\":{}}}",
         refusal.number,

@@ -17,6 +17,7 @@ use std::process::ExitCode;
 
 use args::{Form, Job, Request, Verb};
 use paint::Paint;
+use place::Known;
 use source::Source;
 
 /// How a run ends. A person reads it in words; another program by the exit status.
@@ -145,7 +146,8 @@ fn refused(
     let written = match form {
         Form::Json => json::refused(out, source, refusal),
         Form::Person | Form::Rows => {
-            let _ = human::refused(&mut io::stderr(), Paint::stderr(), source, refusal);
+            let err = &mut io::stderr();
+            let _ = human::refused(err, Paint::stderr(), source, Known::START, refusal);
             Ok(())
         }
     };

@@ -3,23 +3,41 @@ use borrow.Author.Needs.{needs}
 use Rattle.replay.proofs.call.made.Statement.{statement}
 use Rattle.replay.proofs.call.made.Tie as tie
 
-plain-requires : tie.Need-plain-requires
-plain-requires c κs = search (needs, made-laws)
+lumbrisse-read-requires : tie.Need-lumbrisse-read-requires
+lumbrisse-read-requires c κs = search (needs, made-laws)
 
-recovering-requires : tie.Need-recovering-requires
-recovering-requires c κs = search (needs, made-laws)
+of-reply-requires : tie.Need-of-reply-requires
+of-reply-requires c κs = search (needs, made-laws)
 
-single-requires : tie.Need-single-requires
-single-requires c κs = search (needs, made-laws)
+lumbrisse-recover-requires : tie.Need-lumbrisse-recover-requires
+lumbrisse-recover-requires c κs = search (needs, made-laws)
 
-unescaped-requires : tie.Need-unescaped-requires
-unescaped-requires c κs = search (needs, made-laws)
+of-reply-requires-2 : tie.Need-of-reply-requires-2
+of-reply-requires-2 c κs = search (needs, made-laws)
 
-part-requires : tie.Need-part-requires
-part-requires c κs = search (needs, made-laws)
+lumbrisse-expression-requires : tie.Need-lumbrisse-expression-requires
+lumbrisse-expression-requires c κs = search (needs, made-laws)
 
-in-force-requires : tie.Need-in-force-requires
-in-force-requires c κs = search (needs, made-laws)
+of-evaluated-requires : tie.Need-of-evaluated-requires
+of-evaluated-requires c κs = search (needs, made-laws)
+
+lumbrisse-content-requires : tie.Need-lumbrisse-content-requires
+lumbrisse-content-requires c κs = search (needs, made-laws)
+
+of-reply-requires-3 : tie.Need-of-reply-requires-3
+of-reply-requires-3 c κs = search (needs, made-laws)
+
+lumbrisse-span-requires : tie.Need-lumbrisse-span-requires
+lumbrisse-span-requires c κs = search (needs, made-laws)
+
+of-part-requires : tie.Need-of-part-requires
+of-part-requires c κs = search (needs, made-laws)
+
+lumbrisse-tag-in-force-requires : tie.Need-lumbrisse-tag-in-force-requires
+lumbrisse-tag-in-force-requires c κs = search (needs, made-laws)
+
+of-reply-requires-4 : tie.Need-of-reply-requires-4
+of-reply-requires-4 c κs = search (needs, made-laws)
 
 same-length : tie.Need-same-length
 same-length c = search (needs, made-laws)
@@ -58,12 +76,18 @@ pub made-spec : {M : Type 1} → statement M
 made-spec =
     tie.close
     (tie.spec
-    plain-requires
-    recovering-requires
-    single-requires
-    unescaped-requires
-    part-requires
-    in-force-requires
+    lumbrisse-read-requires
+    of-reply-requires
+    lumbrisse-recover-requires
+    of-reply-requires-2
+    lumbrisse-expression-requires
+    of-evaluated-requires
+    lumbrisse-content-requires
+    of-reply-requires-3
+    lumbrisse-span-requires
+    of-part-requires
+    lumbrisse-tag-in-force-requires
+    of-reply-requires-4
     same-length
     returns
     same-length-2
