@@ -1,6 +1,7 @@
 -- The answers at accounts, each from what the code knows where it gives it.
 use Prim.Native.Nat.{ℕ, _+_, _-_, _^_, _≤_, _<_}
 use native.Mathlib.Decide.{decLt}
+use native.Mathlib.Nat.{add-assoc}
 use native.Mathlib.Omega.{arith}
 use mathlib.Core.Path.{_≡_, refl, sym, _∙_}
 use mathlib.Core.Bool.{Bool, true, false, cond, _&&_, _||_}
@@ -14,7 +15,7 @@ use Rattle.text.specs.Bytes.{isCapital, isSmall, isDigit, inAccount, sta
 use Rattle.text.specs.Run.{runTo}
 use Rattle.text.specs.Accounts.{partFollows, partsFrom, accountAt}
 use Rattle.text.specs.declared.account.AccountRead.the-variants.{To, Miss, Hard}
-use Rattle.text.proofs.TestLaws.{and-left}
+use Rattle.text.proofs.TestLaws.{absurd-bool, and-left, and-right}
 use Rattle.text.proofs.Steps.{drop-step, head-drop, getD-past, such-within, run-out, run-same}
 
 module _ (s : List ℕ) (at : ℕ) where
@@ -64,6 +65,21 @@ none-past = refl
 pub part-ends : (s : List ℕ) (i e : ℕ) → e ≡ runTo inAccount s i → inAccount (getD s e 0) ≡ false
 part-ends s i e f = elim (decLt e (length s)) [ yes h ↦ run-out inAccount s i e f h | no h ↦ rw (getD-past s e (omega arith)) none-past ]
 
+-- a part's first byte is one of its bytes, and stands in the text
+start-in : (b : ℕ) → startsPart b ≡ true → inAccount b ≡ true
+unfolding startsPart inAccount
+start-in b e = go (isCapital b) (isSmall b) (isDigit b) (eqb b 45) e
+  where
+    go : (c m d h : Bool) → (c || d) ≡ true → (c || m || d || h) ≡ true
+    go true m d h e = refl
+    go false true d h e = refl
+    go false false true h e = refl
+    go false false false h e = absurd-bool e
+
+no-start-past : startsPart 0 ≡ false
+unfolding startsPart isCapital isDigit
+no-start-past = refl
+
 -- The loop over the parts: the answer a is the end of what is left at i, a part's end, and r says whether a part follows.
 module _ (s : List ℕ) (i : ℕ) (r : Bool) (u : r ≡ partFollows s i) where
   -- where one follows, its colon stands in the text
@@ -72,10 +88,18 @@ module _ (s : List ℕ) (i : ℕ) (r : Bool) (u : r ≡ partFollows s i) where
   parts-within t =
       such-within (λ x. eqb x 58) s i (getD s i 0) refl refl (and-left (eqb (getD s i 0) 58) (startsPart (getD s (i + 1) 0)) (sym u ∙ t))
 
-  pub parts-fits : r ≡ true → length s < 2 ^ 64 → Fits w64 (i + 1)
-  parts-fits t h = record { fits = omega (arith, parts-within t) }
+  -- and so does the byte behind it, which is one of a part
+  part-starts : r ≡ true → startsPart (getD s (i + 1) 0) ≡ true
+  unfolding partFollows
+  part-starts t = and-right (eqb (getD s i 0) 58) (startsPart (getD s (i + 1) 0)) (sym u ∙ t)
 
-  pub parts-less : (e : ℕ) → r ≡ true → i + 1 ≤ e → length s - e < length s - i
+  start-within : r ≡ true → i + 1 < length s
+  start-within t = such-within startsPart s (i + 1) (getD s (i + 1) 0) no-start-past refl (part-starts t)
+
+  pub parts-fits : r ≡ true → length s < 2 ^ 64 → Fits w64 (i + 2)
+  parts-fits t h = record { fits = omega (arith, start-within t) }
+
+  pub parts-less : (e : ℕ) → r ≡ true → i + 2 ≤ e → length s - e < length s - i
   parts-less e t h = omega (arith, parts-within t)
 
   module _ (a : ℕ) (v : a ≡ partsFrom (drop i s) i) (n : inAccount (getD s i 0) ≡ false) where
@@ -85,8 +109,11 @@ module _ (s : List ℕ) (i : ℕ) (r : Bool) (u : r ≡ partFollows s i) where
     parts-join : r ≡ true → a ≡ partsFrom (drop (i + 1) s) (i + 1)
     parts-join t = v ∙ parts-at s i n ∙ rw (← u, t) refl
 
-    pub parts-next : (e : ℕ) → r ≡ true → e ≡ runTo inAccount s (i + 1) → a ≡ partsFrom (drop e s) e
-    parts-next e t f = parts-join t ∙ run-same inAccount s (λ (j : ℕ). partsFrom (drop j s) j) (parts-on s) (i + 1) e f
+    pub parts-next : (e : ℕ) → r ≡ true → e ≡ runTo inAccount s (i + 2) → a ≡ partsFrom (drop e s) e
+    parts-next e t f =
+        parts-join t
+        ∙ parts-on s (i + 1) (start-within t) (start-in (getD s (i + 1) 0) (part-starts t))
+        ∙ rw (add-assoc i 1 1) (run-same inAccount s (λ (j : ℕ). partsFrom (drop j s) j) (parts-on s) (i + 2) e f)
 
 -- the end of the parts is not before where they are read from
 parts-from : (s : List ℕ) (i : ℕ) → i ≤ partsFrom s i

@@ -27,14 +27,15 @@ fn part_follows(s: &[u8], at: usize) -> bool
     false
 }
 
-// The end of an account, from the end of a part of it: each part is run to its end before a `:` is looked for.
+// The end of an account, from the end of a part of it: each part is run to its end before a `:` is looked for. A part that follows is run from
+// its second byte on, since its first was looked at.
 fn parts(s: &[u8], at: usize) -> usize
     requires { ⌜ inAccount (getD (now s) at 0) ≡ false ⌝ }
     ensures { λ r. ⌜ r ≡ partsFrom (drop at (now (s .entry))) at ⌝ }
 {
     let mut e = at;
     while part_follows(s, e) {
-        e = run::run(s, e + 1, Class::Account);
+        e = run::run(s, e + 2, Class::Account);
     }
     e
 }

@@ -11,12 +11,16 @@ pub fn currency(s: &[u8], at: usize) -> Read
 {
     if at < s.len() {
         if bytes::is_capital(s[at]) {
-            // Capitals alone are the usual case, and their run is the quicker one.
+            // Capitals alone are the usual case: their run is the quicker one, and its last byte may end a currency.
             let c = run::run(s, at + 1, Class::Capital);
-            let e = run::run(s, c, Class::Currency);
-            if bytes::starts_part(bytes::peek(s, e - 1)) {
-                return Read::To(e);
+            if bytes::in_currency(bytes::peek(s, c)) {
+                let e = run::run(s, c + 1, Class::Currency);
+                if bytes::starts_part(bytes::peek(s, e - 1)) {
+                    return Read::To(e);
+                }
+                return Read::Miss;
             }
+            return Read::To(c);
         }
     }
     Read::Miss

@@ -15,14 +15,23 @@ add-run c = search (needs, currency-laws)
 run-requires : tie.Need-run-requires
 run-requires c κs = search (needs, currency-laws)
 
+peek-requires : tie.Need-peek-requires
+peek-requires c κs = search (needs, currency-laws)
+
+in-currency-requires : tie.Need-in-currency-requires
+in-currency-requires c κs = search (needs, currency-laws)
+
+add-run-2 : tie.Need-add-run-2
+add-run-2 c = search (needs, currency-laws)
+
 run-requires-2 : tie.Need-run-requires-2
 run-requires-2 c κs = search (needs, currency-laws)
 
 sub-peek : tie.Need-sub-peek
 sub-peek c = search (needs, currency-laws)
 
-peek-requires : tie.Need-peek-requires
-peek-requires c κs = search (needs, currency-laws)
+peek-requires-2 : tie.Need-peek-requires-2
+peek-requires-2 c κs = search (needs, currency-laws)
 
 starts-part-requires : tie.Need-starts-part-requires
 starts-part-requires c κs = search (needs, currency-laws)
@@ -39,6 +48,9 @@ returns-3 c = search (needs, currency-laws)
 returns-4 : tie.Need-returns-4
 returns-4 c = search (needs, currency-laws)
 
+returns-5 : tie.Need-returns-5
+returns-5 c = search (needs, currency-laws)
+
 pub currency-spec : {M : Type 1} → statement M
 currency-spec =
     tie.close
@@ -47,11 +59,15 @@ currency-spec =
     is-capital-requires
     add-run
     run-requires
+    peek-requires
+    in-currency-requires
+    add-run-2
     run-requires-2
     sub-peek
-    peek-requires
+    peek-requires-2
     starts-part-requires
     returns
     returns-2
     returns-3
-    returns-4)
+    returns-4
+    returns-5)
