@@ -4,7 +4,7 @@ use native.Mathlib.Omega.{arith}
 use mathlib.Core.Path.{_≡_, refl, _∙_, ap}
 use mathlib.Core.Bool.{cond}
 use mathlib.Core.List.{List, [], _∷_, map}
-use borrow.Author.Tests.{eq-eqb, ne-eqb}
+use borrow.Author.Tests.{ne-eqb}
 use lib.Dec.{eqb}
 use lib.ListN.{length, getD}
 use Rattle.text.specs.Run.{blanks}
@@ -20,14 +20,13 @@ use Rattle.amount.specs.declared.detail.Detail.{Detail}
 use Rattle.amount.specs.declared.detail.One.{One}
 use Rattle.row.specs.Row.{pourAt}
 use Rattle.row.specs.Details.{laid}
-use Rattle.row.specs.steps.Writing.{noted, outs, Did}
+use Rattle.row.specs.steps.Writing.{someRow, noted, outs, Did}
 use Rattle.row.specs.declared.writer.Out.{Out}
 use Rattle.row.specs.declared.writer.Ran.{Ran}
-use Rattle.row.proofs.OutLaws.{Wrote, rows-noted, wrote-one, wrote-then}
 use Rattle.row.proofs.DidLaws.{did-read, did-miss, did-hard, did-none, did-emit, maybe-read, maybe-miss, maybe-hard}
 use Rattle.posting.specs.Costs.{price, comma, Lot, lot, inside, cost}
 use Rattle.posting.specs.declared.cost.Lot as code
-use Rattle.posting.specs.steps.Lots.{braceAt, lotRow, lotOf, lotRows, optionalPrice, optionalCost}
+use Rattle.posting.specs.steps.Lots.{braceAt, lotRow, lotOf, optionalPrice, optionalCost}
 use Rattle.posting.proofs.OneRows.{OneRow, row, none, hard, one-read, one-miss, one-hard, token-to, token-miss, byteAt, byte-token}
 use Rattle.posting.proofs.LotLaws.{amount-row, price-row}
 
@@ -51,22 +50,6 @@ module _ (base : ℕ) (s : List ℕ) (at : ℕ) (o : Out) (t : List ℕ) (g : Re
     pub price-hard : (n i : ℕ) (u : List ℕ) → x ≡ One.Hard n i → Did base (optionalPrice s at) o t u (Ran.Hard n i)
     unfolding optionalPrice gap maybe
     price-hard n i u k = rw (token-to g (gapAt s at) p (price s) j q, one-hard (price s j) x n i v k) refl
-
--- ---- the rows of a cost: the braces' row x is written, then n, if it is a row
-
-module _ (base : ℕ) (o : Out) (t : List ℕ) (x n : Detail) (m : Out) (v : List ℕ) (p : m ≡ noted o x) (q : v ≡ pourAt (o .rows) (laid base x ∷ []) t) where
-  pub lot-alone : n .kind ≡ 0 → Wrote base o t (lotRows x n) m v
-  unfolding lotRows
-  lot-alone h = rw (eq-eqb (n .kind) 0 h) (wrote-one base o t x m v p q)
-
-  pub lot-pair : (n .kind ≡ 0 → ⊥) → (l : Out) (u : List ℕ) → l ≡ noted m n → u ≡ pourAt (m .rows) (laid base n ∷ []) v → Wrote base o t (lotRows x n) l u
-  unfolding lotRows
-  lot-pair h l u w z =
-      rw (ne-eqb (n .kind) 0 h) (wrote-then base o t (x ∷ []) (n ∷ []) m l v u (wrote-one base o t x m v p q) (wrote-one base m v n l u w z))
-
--- there is room for both
-pub lot-room : (base : ℕ) (o : Out) (x : Detail) (m : Out) → m ≡ noted o x → base ≤ 16777216 → o .rows ≤ 33554431 → (base ≤ 16777216) × (m .rows ≤ 33554432)
-lot-room base o x m p h l = (h, omega (arith, ap (λ (z : Out). z .rows) p, rows-noted o x))
 
 -- ---- a lot has one row of a kind that is not 0, or none
 
@@ -179,10 +162,10 @@ module _ (s : List ℕ) (at : ℕ) where
         pub cost-open : c ≡ Read.Miss → Did base (cost s at) o t t Ran.Miss
         cost-open k = did-miss base o t (cost s at) (cost-closes ∙ closes-miss e held c w k)
 
-        pub cost-read : (f : ℕ) (z : Detail) (m : Out) (u : List ℕ) → c ≡ Read.To f → z ≡ named 28 at f y 0 → m ≡ outs o (lotRows z n)
-            → u ≡ pourAt (o .rows) (map (laid base) (lotRows z n)) t → Did base (cost s at) o t u (Ran.To f m)
-        unfolding lotRows
-        cost-read f z m u k d l r = did-read base o t (cost s at) f (lotRows z n) m u (rw d (cost-closes ∙ closes-to e held c w f k)) (l, r)
+        pub cost-read : (f : ℕ) (z : Detail) (m : Out) (u : List ℕ) → c ≡ Read.To f → z ≡ named 28 at f y 0 → m ≡ outs o (z ∷ someRow n)
+            → u ≡ pourAt (o .rows) (map (laid base) (z ∷ someRow n)) t → Did base (cost s at) o t u (Ran.To f m)
+        unfolding someRow
+        cost-read f z m u k d l r = did-read base o t (cost s at) f (z ∷ someRow n) m u (rw d (cost-closes ∙ closes-to e held c w f k)) (l, r)
 
 -- ---- an optional cost: g is the gap's answer, r the cost's
 

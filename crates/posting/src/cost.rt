@@ -21,7 +21,7 @@ ghost use Rattle.row.specs.Row.{pourAt};
 ghost use Rattle.row.specs.Details.{laid};
 ghost use Rattle.row.specs.steps.Writing.{Did, outs};
 ghost use Rattle.posting.specs.Costs.{price, inside, cost};
-ghost use Rattle.posting.specs.steps.Lots.{commaAt, braceAt, lotOf, gapAmount, amountDate, dateAmount, alone, dateFirst, lotRows, optionalPrice, optionalCost};
+ghost use Rattle.posting.specs.steps.Lots.{commaAt, braceAt, lotOf, gapAmount, amountDate, dateAmount, alone, dateFirst, optionalPrice, optionalCost};
 
 fn gap_amount(s: &[u8], at: usize, kind: usize) -> One
     ensures { λ r. ⌜ r ≡ oneOf (gapAmount kind (now (s .entry)) at) ⌝ }
@@ -194,19 +194,6 @@ fn brace_at(s: &[u8], at: usize) -> Read
     Read::Miss
 }
 
-// The rows of a cost: its braces, and its amount, if it has one.
-fn emit_cost(base: usize, table: &mut [u8], out: Out, x: Detail, n: Detail) -> Out
-    requires { ⌜ (base ≤ 16777216) × (out .rows ≤ 33554431) ⌝ }
-    ensures answer { λ r. ⌜ r ≡ outs out (lotRows x n) ⌝ }
-    ensures rows { λ _. ⌜ now (table .exit) ≡ pourAt (out .rows) (map (laid base) (lotRows x n)) (now (table .entry)) ⌝ }
-{
-    let o = writer::emit(table, base, out, x);
-    if n.kind == 0 {
-        return o;
-    }
-    writer::emit(table, base, o, n)
-}
-
 // Cost: `{`, blanks, what stands inside, blanks, `}`.
 fn cost_at(s: &[u8], at: usize, base: usize, table: &mut [u8], out: Out) -> Ran
     requires { ⌜ (base ≤ 16777216) × (out .rows ≤ 33554431) ⌝ }
@@ -221,7 +208,13 @@ fn cost_at(s: &[u8], at: usize, base: usize, table: &mut [u8], out: Out) -> Ran
                     let c = brace_at(s, e);
                     match c {
                         Read::To(f) => {
-                            let o = emit_cost(base, table, out, detail::named(28, at, f, y, 0), n);
+                            let o = writer::emit_with(
+                                table,
+                                base,
+                                out,
+                                detail::named(28, at, f, y, 0),
+                                n,
+                            );
                             Ran::To(f, o)
                         }
                         Read::Miss => Ran::Miss,

@@ -20,10 +20,11 @@ use Rattle.row.proofs.OutLaws.{rows-outs}
 use Rattle.row.proofs.SureLaws.{Sure, sure-must, sure-maybe, sure-many, sure-and}
 use Rattle.row.proofs.DidLaws.{was-read, and-read, and-miss, and-hard}
 use Rattle.row.proofs.TokenLaws.{must-token-read, must-token-miss}
-use Rattle.posting.specs.Metadata.{metaStep, metadata}
-use Rattle.posting.specs.Postings.{bodyStep, body}
+use Rattle.posting.specs.Metadata.{metadata}
+use Rattle.posting.specs.Postings.{body}
 use Rattle.posting.proofs.PostingEnds.{optional-reach, metadata-reach}
 use Rattle.posting.proofs.PostingFew.{metadata-fits}
+use Rattle.posting.proofs.PostingAgree.{sure-metadata, sure-body}
 use Rattle.transaction.specs.Transaction.{opening, texts, mark, marks, transaction}
 use Rattle.transaction.specs.steps.Heads.{textsOf, linesOf, markedOf, textedOf}
 use Rattle.transaction.proofs.TransactionEnds.{opening-reach, texts-reach, marks-reach}
@@ -57,14 +58,6 @@ pub ruleset chain = (part-within, part-rows, and-read, and-miss, and-hard)
 -- ---- the parts, which do not miss but for the opening
 
 module _ (s : List ℕ) (at : ℕ) where
-  pub sure-body : Sure (body s at)
-  unfolding body
-  sure-body = sure-many (bodyStep s) (suc (length s)) at
-
-  sure-metadata : Sure (metadata s at)
-  unfolding metadata
-  sure-metadata = sure-many (metaStep s) (suc (length s)) at
-
   sure-marks : Sure (marks s at)
   unfolding marks
   sure-marks = sure-many (mark s) (suc (length s)) at

@@ -35,10 +35,6 @@ lotOf (To e l) = code.Lot.Read e (l .when) (lotRow (l .rows))
 lotOf Miss = code.Lot.Miss
 lotOf (Hard k p) = code.Lot.Hard k p
 
--- the rows of a cost: the braces and the amount, if there is one
-unfoldable pub lotRows : Detail → Detail → List Detail
-lotRows x n = x ∷ cond (eqb (n .kind) 0) [] (n ∷ [])
-
 unfoldable pub gapAmount : ℕ → List ℕ → ℕ → Rows
 gapAmount k s at = gap s at and λ g. amount k s g
 

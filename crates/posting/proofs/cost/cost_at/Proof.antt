@@ -27,8 +27,8 @@ enum-known-c c = search (needs, cost-laws)
 named-requires : tie.Need-named-requires
 named-requires c κs = search (needs, cost-laws)
 
-emit-cost-requires : tie.Need-emit-cost-requires
-emit-cost-requires c κs = search (needs, cost-laws)
+emit-with-requires : tie.Need-emit-with-requires
+emit-with-requires c κs = search (needs, cost-laws)
 
 enum-told : tie.Need-enum-told
 enum-told c = search (needs, cost-laws)
@@ -72,7 +72,7 @@ cost-at-spec =
     brace-at-requires
     enum-known-c
     named-requires
-    emit-cost-requires
+    emit-with-requires
     enum-told
     enum-told-2
     enum-known-x-2
