@@ -6,7 +6,7 @@ use native.Mathlib.Omega.{arith}
 use mathlib.Core.Path.{_≡_, refl, sym, _∙_, ap}
 use mathlib.Core.Bool.{Bool, true, false, cond, not, _&&_}
 use mathlib.Core.List.{List, [], _∷_, _++_}
-use borrow.Author.Tests.{eq-eqb, ne-eqb, eqb-true, eqb-false, le-leb, lt-leb}
+use borrow.Author.Tests.{eq-eqb, ne-eqb, eqb-true, eqb-false, not-false, le-leb, lt-leb}
 use lib.Dec.{eqb}
 use lib.ListN.{length, getD, set, drop, drop-of-length-le}
 use lib.Seq.{sets, sets-eq, drop-drop}
@@ -14,14 +14,17 @@ use mir.Syntax.{w64}
 use mir.Val.{Fits}
 use Rattle.text.specs.Bytes.{isOrdinary, isEscaped}
 use Rattle.text.specs.Strings.{strFrom, escFrom, stringAt}
-use Rattle.text.specs.declared.Read.{Read}
 use Rattle.text.proofs.Steps.{drop-step, head-drop, such-within}
-use Rattle.text.proofs.StringLaws.{backslash}
 use Rattle.text.proofs.TestLaws.{and-right}
 use Rattle.access.specs.Contents.{endsAt, valid, unescaped, escapedByte, contentAnswer, contentLeft}
 use Rattle.access.specs.steps.Measuring.{taken, slash, measuredOf}
 use Rattle.access.specs.declared.content.Content.{Content}
 use Rattle.access.specs.declared.content.Measured.{Measured}
+
+-- a byte that is neither ordinary nor a quote
+backslash : (b : ℕ) → isOrdinary b ≡ false → (b ≡ 34 → ⊥) → b ≡ 92
+unfolding isOrdinary
+backslash b e q = eqb-true b 92 (not-false (eqb b 92) (rw (ne-eqb b 34 q) at e))
 
 -- ---- how many bytes stand for the next one
 

@@ -14,6 +14,7 @@ use text::line;
 use text::run;
 use text::run::Class;
 use text::string;
+use text::window;
 ghost use mathlib.Core.Path.{_≡_};
 ghost use Prim.Native.Nat.{_≤_};
 ghost use lib.ListN.{length, getD};
@@ -30,7 +31,7 @@ fn key(s: &[u8], at: usize) -> Read
 {
     if at < s.len() {
         if bytes::is_small(s[at]) {
-            return Read::To(run::run(s, at + 1, Class::Tag));
+            return Read::To(window::tag_run(s, at + 1));
         }
     }
     Read::Miss

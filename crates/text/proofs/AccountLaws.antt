@@ -1,119 +1,151 @@
 -- The answers at accounts, each from what the code knows where it gives it.
-use Prim.Native.Nat.{ℕ, _+_, _-_, _^_, _≤_, _<_}
+use Prim.Native.Nat.{ℕ, _+_, _-_, _≤_, _<_}
 use native.Mathlib.Decide.{decLt}
-use native.Mathlib.Nat.{add-assoc}
 use native.Mathlib.Omega.{arith}
 use mathlib.Core.Path.{_≡_, refl, sym, _∙_}
-use mathlib.Core.Bool.{Bool, true, false, cond, _&&_, _||_}
+use mathlib.Core.Bool.{Bool, true, false, cond, not, _&&_, _||_, and-true}
 use mathlib.Core.List.{List, [], _∷_}
-use mir.Syntax.{w64}
-use mir.Val.{Fits}
-use borrow.Author.Tests.{ne-eqb}
-use lib.Dec.{eqb}
+use borrow.Author.Tests.{ne-eqb, eqb-true, eqb-false, le-leb, lt-leb}
+use lib.Dec.{eqb, leb}
 use lib.ListN.{length, drop, getD, drop-of-length-le}
 use Rattle.text.specs.Bytes.{isCapital, isSmall, isDigit, inAccount, startsPart}
 use Rattle.text.specs.Run.{runTo}
 use Rattle.text.specs.Accounts.{partFollows, partsFrom, accountAt}
 use Rattle.text.specs.declared.account.AccountRead.the-variants.{To, Miss, Hard}
-use Rattle.text.proofs.TestLaws.{absurd-bool, and-left, and-right}
-use Rattle.text.proofs.Steps.{drop-step, head-drop, getD-past, such-within, run-out, run-same}
+use Rattle.text.specs.steps.Windows.{goesOn, firstStop}
+use Rattle.text.proofs.TestLaws.{or-left}
+use Rattle.text.proofs.Steps.{drop-step, head-drop, getD-past, run-on, run-stops, run-ends, run-out, run-same}
+use Rattle.text.proofs.WindowLaws.{first-stops, first-passed}
 
-module _ (s : List ℕ) (at : ℕ) where
-  -- a colon and the start of a part
-  pub follows : (b : ℕ) (r : Bool) → getD s at 0 ≡ 58 → b ≡ getD s (at + 1) 0 → r ≡ startsPart b → r ≡ partFollows s at
-  unfolding partFollows
-  follows b r e f u = rw (e, ← f) u
+-- ---- whether an account goes on
 
-  pub no-colon : (getD s at 0 ≡ 58 → ⊥) → false ≡ partFollows s at
-  unfolding partFollows
-  no-colon e = rw (ne-eqb _ _ e)
+-- the colon among the code's tests
+colon-on : (next : ℕ) → startsPart next ≡ goesOn 58 next
+unfolding goesOn inAccount isCapital isSmall isDigit
+colon-on next = refl
 
-  pub past-colon : length s ≤ at → false ≡ partFollows s at
-  unfolding partFollows
-  past-colon h = rw (getD-past s at h)
+-- any other byte: up to the colon means up to the digits' end
+other-on : (b next : ℕ) → (b ≡ 58 → ⊥) → (isSmall b || isCapital b || (leb 48 b && leb b 58) || eqb b 45) ≡ goesOn b next
+unfolding goesOn inAccount isDigit
+other-on b next n = rw (up-to, ne-eqb b 58 n) (turned (isSmall b) (isCapital b) (leb 48 b && leb b 57) (eqb b 45))
+  where
+    up-to : leb b 58 ≡ leb b 57
+    up-to = elim (decLt b 58) [ yes h ↦ rw (le-leb b 58 (omega arith), le-leb b 57 (omega arith)) | no h ↦ rw (lt-leb b 58 (omega arith), lt-leb b 57 (omega arith)) ]
 
-  -- an account
-  pub account-past : length s ≤ at → Miss ≡ accountAt s at
-  unfolding accountAt startsPart isCapital isDigit
-  account-past h = rw (getD-past s at h)
+    turned : (m c d h : Bool) → (m || c || d || h) ≡ ((c || m || d || h) || false)
+    turned true true d h = refl
+    turned true false d h = refl
+    turned false true d h = refl
+    turned false false true h = refl
+    turned false false false true = refl
+    turned false false false false = refl
 
-  module _ (r : Bool) (p : r ≡ startsPart (getD s at 0)) where
-    pub account-no : r ≡ false → Miss ≡ accountAt s at
-    unfolding accountAt
-    account-no q = cc
+-- m, c and p are what the code's tests gave of the byte and the next
+pub goes-on : (b next : ℕ) (m c p : Bool) → m ≡ isSmall b → c ≡ isCapital b → p ≡ startsPart next
+    → ((m || c || (leb 48 b && leb b 58) || eqb b 45) && (not (eqb b 58) || p)) ≡ goesOn b next
+unfolding isSmall isCapital
+goes-on b next m c p u v w = rw (u, v, w) (go (eqb b 58) refl)
+  where
+    go : (t : Bool) → eqb b 58 ≡ t → ((isSmall b || isCapital b || (leb 48 b && leb b 58) || eqb b 45) && (not t || startsPart next)) ≡ goesOn b next
+    go true e = rw (eqb-true b 58 e) (colon-on next)
+    go false e = and-true (isSmall b || isCapital b || (leb 48 b && leb b 58) || eqb b 45) ∙ other-on b next (eqb-false b 58 e)
 
--- a byte inside a part
-parts-on : (s : List ℕ) (i : ℕ) → i < length s → inAccount (getD s i 0) ≡ true → partsFrom (drop i s) i ≡ partsFrom (drop (i + 1) s) (i + 1)
-unfolding partsFrom
-parts-on s i h e = rw (drop-step s i h, e)
+-- ---- where an account ends: at the first place where it does not go on
 
--- at a part's end
-parts-at : (s : List ℕ) (i : ℕ) → inAccount (getD s i 0) ≡ false
-    → partsFrom (drop i s) i ≡ cond (partFollows s i) (partsFrom (drop (i + 1) s) (i + 1)) i
-unfolding partsFrom partFollows
-parts-at s i n =
-    elim (decLt i (length s)) [
-      | yes h ↦ rw (drop-step s i h, n, head-drop s (i + 1))
-      | no h ↦ rw (drop-of-length-le s {i = i} (omega arith), getD-past s i (omega arith))
-    ]
+module _ (s : List ℕ) where
+  parts-step : (i : ℕ) → i < length s → partsFrom (drop i s) i ≡ cond (goesOn (getD s i 0) (getD s (i + 1) 0)) (partsFrom (drop (i + 1) s) (i + 1)) i
+  unfolding partsFrom goesOn
+  parts-step i h = rw (drop-step s i h, head-drop s (i + 1))
 
--- a run of a part's bytes ends at a part's end
+  parts-on : (i : ℕ) → i < length s → goesOn (getD s i 0) (getD s (i + 1) 0) ≡ true → partsFrom (drop i s) i ≡ partsFrom (drop (i + 1) s) (i + 1)
+  parts-on i h e = parts-step i h ∙ rw e refl
+
+  parts-off : (i : ℕ) → i < length s → goesOn (getD s i 0) (getD s (i + 1) 0) ≡ false → partsFrom (drop i s) i ≡ i
+  parts-off i h e = parts-step i h ∙ rw e refl
+
+  parts-past : (i : ℕ) → length s ≤ i → partsFrom (drop i s) i ≡ i
+  unfolding partsFrom
+  parts-past i h = rw (drop-of-length-le s h)
+
+-- The invariant is that the answer a is the end of what is left at i.
+module _ (a : ℕ) (s : List ℕ) (i : ℕ) (v : a ≡ partsFrom (drop i s) i) where
+  -- byte by byte: n is the next byte, and r what the code's test gave
+  module _ (n : ℕ) (r : Bool) (h : i < length s) (w : n ≡ getD s (i + 1) 0) (u : r ≡ goesOn (getD s i 0) n) where
+    pub account-on : r ≡ true → a ≡ partsFrom (drop (i + 1) s) (i + 1)
+    account-on t = v ∙ parts-on s i h (rw (← w, ← u) t)
+
+    pub account-stops : r ≡ false → i ≡ a
+    account-stops t = sym (v ∙ parts-off s i h (rw (← w, ← u) t))
+
+  pub account-ends : length s ≤ i → i ≡ a
+  account-ends h = sym (v ∙ parts-past s i h)
+
+  -- in windows: f is the first stop in one
+  module _ (f : ℕ) (k : 16 < length s) (h : i < length s - 16) (u : f ≡ firstStop (λ (j : ℕ). goesOn (getD s (i + j) 0) (getD s (i + j + 1) 0)) 16 16) where
+    pub parts-stop : (w : ℕ) → w ≡ f → f < 16 → i + w ≡ a
+    parts-stop w e =
+        rw e
+        (first-stops
+        (λ (j : ℕ). partsFrom (drop j s) j)
+        (λ (j : ℕ). goesOn (getD s j 0) (getD s (j + 1) 0))
+        (length s)
+        (parts-on s)
+        (parts-off s)
+        a
+        i
+        16
+        f
+        v
+        (omega arith)
+        u)
+
+    pub parts-passed : 16 ≤ f → a ≡ partsFrom (drop (i + 16) s) (i + 16)
+    parts-passed =
+        first-passed
+        (λ (j : ℕ). partsFrom (drop j s) j)
+        (λ (j : ℕ). goesOn (getD s j 0) (getD s (j + 1) 0))
+        (length s)
+        (parts-on s)
+        (parts-off s)
+        a
+        i
+        16
+        f
+        v
+        (omega arith)
+        u
+
+pub ruleset short-laws = (account-on, account-stops, account-ends)
+
+pub ruleset parts-laws = (parts-stop, parts-passed)
+
+-- ---- the first part of an account that ends at j: its end is the first colon, or j
+
+-- a colon is no byte of a part
+colon-out : inAccount 58 ≡ false
+unfolding inAccount isCapital isSmall isDigit
+colon-out = refl
+
 none-past : inAccount 0 ≡ false
 unfolding inAccount isCapital isSmall isDigit
 none-past = refl
 
-pub part-ends : (s : List ℕ) (i e : ℕ) → e ≡ runTo inAccount s i → inAccount (getD s e 0) ≡ false
-part-ends s i e f = elim (decLt e (length s)) [ yes h ↦ run-out inAccount s i e f h | no h ↦ rw (getD-past s e (omega arith)) none-past ]
-
--- a part's first byte is one of its bytes, and stands in the text
-start-in : (b : ℕ) → startsPart b ≡ true → inAccount b ≡ true
-unfolding startsPart inAccount
-start-in b e = go (isCapital b) (isSmall b) (isDigit b) (eqb b 45) e
+-- where the account goes on with a byte that is no colon, that is one of a part, and where it does not, none
+part-on : (b n : ℕ) → goesOn b n ≡ true → (b ≡ 58 → ⊥) → inAccount b ≡ true
+unfolding goesOn
+part-on b n e c = go (inAccount b) (rw (ne-eqb b 58 c) at e)
   where
-    go : (c m d h : Bool) → (c || d) ≡ true → (c || m || d || h) ≡ true
-    go true m d h e = refl
-    go false true d h e = refl
-    go false false true h e = refl
-    go false false false h e = absurd-bool e
+    go : (t : Bool) → (t || false) ≡ true → t ≡ true
+    go true e = refl
+    go false e = e
 
-no-start-past : startsPart 0 ≡ false
-unfolding startsPart isCapital isDigit
-no-start-past = refl
+part-off : (b n : ℕ) → goesOn b n ≡ false → inAccount b ≡ false
+unfolding goesOn
+part-off b n e = or-left (inAccount b) (eqb b 58 && startsPart n) e
 
--- The loop over the parts: the answer a is the end of what is left at i, a part's end, and r says whether a part follows.
-module _ (s : List ℕ) (i : ℕ) (r : Bool) (u : r ≡ partFollows s i) where
-  -- where one follows, its colon stands in the text
-  parts-within : r ≡ true → i < length s
-  unfolding partFollows
-  parts-within t =
-      such-within (λ x. eqb x 58) s i (getD s i 0) refl refl (and-left (eqb (getD s i 0) 58) (startsPart (getD s (i + 1) 0)) (sym u ∙ t))
-
-  -- and so does the byte behind it, which is one of a part
-  part-starts : r ≡ true → startsPart (getD s (i + 1) 0) ≡ true
-  unfolding partFollows
-  part-starts t = and-right (eqb (getD s i 0) 58) (startsPart (getD s (i + 1) 0)) (sym u ∙ t)
-
-  start-within : r ≡ true → i + 1 < length s
-  start-within t = such-within startsPart s (i + 1) (getD s (i + 1) 0) no-start-past refl (part-starts t)
-
-  pub parts-fits : r ≡ true → length s < 2 ^ 64 → Fits w64 (i + 2)
-  parts-fits t h = record { fits = omega (arith, start-within t) }
-
-  pub parts-less : (e : ℕ) → r ≡ true → i + 2 ≤ e → length s - e < length s - i
-  parts-less e t h = omega (arith, parts-within t)
-
-  module _ (a : ℕ) (v : a ≡ partsFrom (drop i s) i) (n : inAccount (getD s i 0) ≡ false) where
-    pub parts-stop : r ≡ false → i ≡ a
-    parts-stop t = sym (v ∙ parts-at s i n ∙ rw (← u, t) refl)
-
-    parts-join : r ≡ true → a ≡ partsFrom (drop (i + 1) s) (i + 1)
-    parts-join t = v ∙ parts-at s i n ∙ rw (← u, t) refl
-
-    pub parts-next : (e : ℕ) → r ≡ true → e ≡ runTo inAccount s (i + 2) → a ≡ partsFrom (drop e s) e
-    parts-next e t f =
-        parts-join t
-        ∙ parts-on s (i + 1) (start-within t) (start-in (getD s (i + 1) 0) (part-starts t))
-        ∙ rw (add-assoc i 1 1) (run-same inAccount s (λ (j : ℕ). partsFrom (drop j s) j) (parts-on s) (i + 2) e f)
+on-part : (b n : ℕ) → inAccount b ≡ true → goesOn b n ≡ true
+unfolding goesOn
+on-part b n e = rw e
 
 -- the end of the parts is not before where they are read from
 parts-from : (s : List ℕ) (i : ℕ) → i ≤ partsFrom s i
@@ -125,30 +157,89 @@ parts-from (b ∷ s) i = go (inAccount b || (eqb b 58 && startsPart (getD s 0 0)
     go true h = omega arith
     go false h = omega arith
 
--- An account whose first part ends at e, and its parts at j: they end there too if no second one follows.
-module _ (s : List ℕ) (at : ℕ) (r : Bool) (p : r ≡ startsPart (getD s at 0)) (q : r ≡ true) (e j : ℕ)
-    (f : e ≡ runTo inAccount s (at + 1)) (w : j ≡ partsFrom (drop e s) e) where
-  by-follows : (t : Bool) → partFollows s e ≡ t → accountAt s at ≡ cond t (To j) Hard
+-- an account that is read from i on and ends at j goes on at i, or ends there
+module _ (s : List ℕ) (i j : ℕ) (v : j ≡ partsFrom (drop i s) i) where
+  pub part-within : i < j → i < length s
+  part-within l = elim (decLt i (length s)) [ yes h ↦ h | no h ↦ absurd (omega (arith, v ∙ parts-past s i (omega arith))) ]
+
+  goes : i < j → goesOn (getD s i 0) (getD s (i + 1) 0) ≡ true
+  goes l = go (goesOn (getD s i 0) (getD s (i + 1) 0)) refl
+    where
+      go : (t : Bool) → goesOn (getD s i 0) (getD s (i + 1) 0) ≡ t → t ≡ true
+      go true e = refl
+      go false e = absurd (omega (arith, v ∙ parts-off s i (part-within l) e))
+
+  ends : j ≤ i → goesOn (getD s i 0) (getD s (i + 1) 0) ≡ false
+  unfolding goesOn
+  ends l = elim (decLt i (length s)) [ yes h ↦ go h (goesOn (getD s i 0) (getD s (i + 1) 0)) refl | no h ↦ rw (getD-past s i (omega arith), none-past) ]
+    where
+      go : i < length s → (t : Bool) → goesOn (getD s i 0) (getD s (i + 1) 0) ≡ t → t ≡ false
+      go h true e = absurd (omega (arith, v ∙ parts-on s i h e, parts-from (drop (i + 1) s) (i + 1)))
+      go h false e = refl
+
+  -- The invariant is this, and that its first part ends at a.
+  module _ (a : ℕ) (w : a ≡ runTo inAccount s i) where
+    module _ (l : i < j) where
+      pub part-colon : getD s i 0 ≡ 58 → i ≡ a
+      part-colon c = sym (w ∙ run-stops inAccount s i (part-within l) (rw c colon-out))
+
+      pub part-next : (getD s i 0 ≡ 58 → ⊥) → a ≡ runTo inAccount s (i + 1)
+      part-next c = w ∙ run-on inAccount s i (part-within l) (part-on (getD s i 0) (getD s (i + 1) 0) (goes l) c)
+
+    pub part-last : j ≤ i → i ≡ a
+    part-last l =
+        elim (decLt i (length s)) [
+          | yes h ↦ sym (w ∙ run-stops inAccount s i h (part-off (getD s i 0) (getD s (i + 1) 0) (ends l)))
+          | no h ↦ sym (w ∙ run-ends inAccount s i (omega arith))
+        ]
+
+  pub account-next : i < j → j ≡ partsFrom (drop (i + 1) s) (i + 1)
+  account-next l = v ∙ parts-on s i (part-within l) (goes l)
+
+pub ruleset first-laws = (part-within, part-colon, account-next, part-next, part-last)
+
+-- ---- an account
+
+pub account-past : (s : List ℕ) (at : ℕ) → length s ≤ at → Miss ≡ accountAt s at
+unfolding accountAt startsPart isCapital isDigit
+account-past s at h = rw (getD-past s at h)
+
+module _ (s : List ℕ) (at : ℕ) (r : Bool) (p : r ≡ startsPart (getD s at 0)) where
+  pub account-no : r ≡ false → Miss ≡ accountAt s at
   unfolding accountAt
-  by-follows t u = cc
+  account-no q = cc
 
-  pub account-read : e < j → To j ≡ accountAt s at
-  account-read l = go (partFollows s e) refl
-    where
-      go : (t : Bool) → partFollows s e ≡ t → To j ≡ accountAt s at
-      go true u = sym (by-follows true u)
-      go false u = absurd (omega (arith, parts-stop s e false (sym u) j w (part-ends s (at + 1) e f) refl))
+  -- whose first part ends at e, and its parts at j: they end there too if no second one follows
+  module _ (q : r ≡ true) (e j : ℕ) (f : e ≡ runTo inAccount s (at + 1)) (w : j ≡ partsFrom (drop (at + 1) s) (at + 1)) where
+    -- what is left at the first part's end
+    rest : j ≡ partsFrom (drop e s) e
+    rest =
+        w
+        ∙ run-same
+        inAccount
+        s
+        (λ (i : ℕ). partsFrom (drop i s) i)
+        (λ i h o. parts-on s i h (on-part (getD s i 0) (getD s (i + 1) 0) o))
+        (at + 1)
+        e
+        f
 
-  pub account-hard : j ≤ e → Hard ≡ accountAt s at
-  account-hard l = go (partFollows s e) refl
-    where
-      go : (t : Bool) → partFollows s e ≡ t → Hard ≡ accountAt s at
-      go true u =
-          absurd (omega (arith, parts-join s e true (sym u) j w (part-ends s (at + 1) e f) refl, parts-from (drop (e + 1) s) (e + 1)))
-      go false u = sym (by-follows false u)
+    follows : (t : Bool) → partFollows s e ≡ t → accountAt s at ≡ cond t (To j) Hard
+    unfolding accountAt
+    follows t u = let k = rest in cc
 
-pub ruleset follow-laws = (follows, no-colon, past-colon)
+    -- the byte at the first part's end is none of a part, so a part follows where the account goes on
+    part-out : inAccount (getD s e 0) ≡ false
+    part-out = elim (decLt e (length s)) [ yes h ↦ run-out inAccount s (at + 1) e f h | no h ↦ rw (getD-past s e (omega arith)) none-past ]
 
-pub ruleset parts-laws = (part-ends, parts-fits, parts-less, parts-stop, parts-next)
+    follow-on : goesOn (getD s e 0) (getD s (e + 1) 0) ≡ partFollows s e
+    unfolding goesOn partFollows
+    follow-on = rw part-out
 
-pub ruleset account-laws = (part-ends, account-read, account-hard, account-no, account-past)
+    pub account-read : e < j → To j ≡ accountAt s at
+    account-read l = sym (follows true (sym follow-on ∙ goes s e j rest l))
+
+    pub account-hard : j ≤ e → Hard ≡ accountAt s at
+    account-hard l = sym (follows false (sym follow-on ∙ ends s e j rest l))
+
+pub ruleset account-laws = (account-read, account-hard, account-no, account-past)

@@ -1,9 +1,9 @@
 -- Classes that are made of others, tested in the code's order.
 use Prim.Native.Nat.{ℕ}
-use mathlib.Core.Path.{_≡_, refl, _∙_}
+use mathlib.Core.Path.{_≡_}
 use mathlib.Core.Bool.{Bool, true, false, _||_}
 use lib.Dec.{eqb}
-use Rattle.text.specs.Bytes.{isDigit, isSmall, isCapital, startsPart, inAccount, inCurrency, inTag, inLink}
+use Rattle.text.specs.Bytes.{isDigit, isCapital, startsPart, inCurrency}
 
 -- the answer of `if x { return true; } y`, where r is what the test gave
 pub or-yes : (r x y : Bool) → r ≡ x → r ≡ true → true ≡ (x || y)
@@ -17,16 +17,6 @@ pub as-start : (b : ℕ) (r : Bool) → r ≡ (isCapital b || isDigit b) → r �
 unfolding startsPart
 as-start b r e = e
 
-pub as-account : (b : ℕ) (r : Bool) → r ≡ (isSmall b || (startsPart b || eqb b 45)) → r ≡ inAccount b
-unfolding startsPart inAccount
-as-account b r e = e ∙ turned (isCapital b) (isSmall b) (isDigit b) (eqb b 45)
-  where
-    turned : (c s d m : Bool) → (s || ((c || d) || m)) ≡ (c || s || d || m)
-    turned true true d m = refl
-    turned true false d m = refl
-    turned false true d m = refl
-    turned false false d m = refl
-
 -- capitals first; c and d are what the code's tests gave
 module _ (b : ℕ) (c : Bool) (e : c ≡ isCapital b) where
   pub currency-capital : c ≡ true → true ≡ inCurrency b
@@ -37,12 +27,4 @@ module _ (b : ℕ) (c : Bool) (e : c ≡ isCapital b) where
   unfolding inCurrency
   currency-other d t f = rw (← e, t, f)
 
-pub as-tag : (b : ℕ) (r : Bool) → r ≡ (inAccount b || eqb b 95) → r ≡ inTag b
-unfolding inAccount inTag
-as-tag b r e = e
-
-pub as-link : (b : ℕ) (r : Bool) → r ≡ (inTag b || eqb b 46) → r ≡ inLink b
-unfolding inLink
-as-link b r e = e
-
-pub ruleset class-laws = (or-yes, or-no, as-start, as-account, currency-capital, currency-other, as-tag, as-link)
+pub ruleset class-laws = (or-yes, or-no, as-start, currency-capital, currency-other)

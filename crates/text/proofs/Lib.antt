@@ -2,6 +2,7 @@ pub mod TestLaws
 pub mod Steps
 pub mod ByteLaws
 pub mod RunLaws
+pub mod WindowLaws
 pub mod LineLaws
 pub mod DateLaws
 pub mod WordLaws

@@ -1,88 +1,78 @@
--- The answers in a string: a run of ordinary bytes, and what follows it.
-use Prim.Native.Nat.{ℕ, _+_, _≤_, _<_}
-use native.Mathlib.Decide.{decLt}
+-- The answers in a string, byte by byte.
+use Prim.Native.Nat.{ℕ, _+_, _-_, _≤_, _<_}
 use native.Mathlib.Nat.{add-assoc}
 use native.Mathlib.Omega.{arith}
 use mathlib.Core.Path.{_≡_, refl, sym, _∙_}
-use mathlib.Core.Bool.{Bool, true, false, cond, not, _&&_}
+use mathlib.Core.Bool.{Bool, true, false, cond}
 use mathlib.Core.List.{List}
-use borrow.Author.Tests.{eq-eqb, ne-eqb, eqb-true, not-false, lt-ltb, le-ltb}
+use borrow.Author.Tests.{eq-eqb, ne-eqb, lt-ltb, le-ltb}
 use lib.Dec.{eqb, ltb}
 use lib.ListN.{length, drop, getD, drop-of-length-le}
-use Rattle.text.specs.Bytes.{isEscaped, isOrdinary}
-use Rattle.text.specs.Run.{runTo}
+use Rattle.text.specs.Bytes.{isEscaped}
 use Rattle.text.specs.Strings.{strFrom, escFrom}
 use Rattle.text.specs.declared.Read.{Read}
 use Rattle.text.specs.declared.Read.the-variants.{To, Miss}
-use Rattle.text.proofs.Steps.{drop-step, getD-past, run-from, run-first, run-out, run-same}
+use Rattle.text.proofs.Steps.{drop-step}
 
--- an ordinary byte; o says whether one stands before it
-pub str-on : (o : Bool) (s : List ℕ) (i : ℕ) → i < length s → isOrdinary (getD s i 0) ≡ true → strFrom o (drop i s) i ≡ strFrom true (drop (i + 1) s) (i + 1)
-unfolding strFrom isOrdinary
-str-on o s i h t = let k = neither (eqb (getD s i 0) 34) (eqb (getD s i 0) 92) t in rw (drop-step s i h, k .0, k .1)
-  where
-    neither : (x y : Bool) → (not x && not y) ≡ true → (x ≡ false) × (y ≡ false)
-    neither true y e = (sym e, cc)
-    neither false true e = (refl, sym e)
-    neither false false e = (refl, refl)
+pub str-start : (s : List ℕ) (at : ℕ) → strFrom false (drop at s) at ≡ strFrom (ltb at at) (drop at s) at
+str-start s at = rw (le-ltb at at (omega arith))
 
--- a run of ordinary bytes that is not empty: what stands before it does not matter
-pub str-over : (o : Bool) (s : List ℕ) (i e : ℕ) → e ≡ runTo isOrdinary s i → i < e → strFrom o (drop i s) i ≡ strFrom true (drop e s) e
-str-over o s i e f l =
-    let u = run-first isOrdinary s i e f l in
-    str-on o s i (u .0) (u .1) ∙ sym (str-on true s i (u .0) (u .1)) ∙ run-same isOrdinary s (λ (j : ℕ). strFrom true (drop j s) j) (str-on true s) i e f
-
--- a byte that is neither ordinary nor a quote
-pub backslash : (b : ℕ) → isOrdinary b ≡ false → (b ≡ 34 → ⊥) → b ≡ 92
-unfolding isOrdinary
-backslash b e q = eqb-true b 92 (not-false (eqb b 92) (rw (ne-eqb b 34 q) at e))
-
--- after a backslash, also past the end
-pub esc-at : (s : List ℕ) (i : ℕ) → escFrom (drop i s) i ≡ cond (isEscaped (getD s i 0)) (strFrom false (drop (i + 1) s) (i + 1)) Miss
-unfolding escFrom isEscaped
-esc-at s i =
-    elim (decLt i (length s)) [
-      | yes h ↦ rw (drop-step s i h)
-      | no h ↦ let l : length s ≤ i = omega arith in rw (drop-of-length-le s l, getD-past s i l)
-    ]
-
--- The loop over a string: the answer a is what is left to read at i, and the run of ordinary bytes there ends at e.
-module _ (a : Read) (s : List ℕ) (i e : ℕ) (v : a ≡ strFrom false (drop i s) i) (f : e ≡ runTo isOrdinary s i) where
-  str-run : a ≡ strFrom (ltb i e) (drop e s) e
-  str-run =
-      elim (decLt i e) [
-        | yes l ↦ rw (lt-ltb i e l) (v ∙ str-over false s i e f l)
-        | no l ↦ let q : e ≡ i = omega (arith, run-from isOrdinary s i e f) in rw (q, le-ltb i i (omega arith)) v
-      ]
-
-  -- what ends the run, if no quote, is a backslash
-  slash : e < length s → (getD s e 0 ≡ 34 → ⊥) → getD s e 0 ≡ 92
-  slash h q = backslash (getD s e 0) (run-out isOrdinary s i e f h) q
-
-  pub str-end : length s ≤ e → Miss ≡ a
+-- The invariant is that the answer a is what is left to read at i, where the last escape, or the opening quote, ended at `start`: so an
+-- ordinary byte stands before i if that is behind it.
+module _ (a : Read) (s : List ℕ) (start i : ℕ) (v : a ≡ strFrom (ltb start i) (drop i s) i) where
+  quote : i < length s → getD s i 0 ≡ 34 → To (i + 1) ≡ a
   unfolding strFrom
-  str-end h = sym (str-run ∙ rw (drop-of-length-le s h))
+  quote h q = sym (v ∙ rw (drop-step s i h, eq-eqb _ _ q))
 
-  module _ (h : e < length s) where
-    pub str-quote : getD s e 0 ≡ 34 → To (e + 1) ≡ a
-    unfolding strFrom
-    str-quote q = sym (str-run ∙ rw (drop-step s e h, eq-eqb _ _ q))
+  -- before the text's last byte
+  module _ (h : i < length s - 1) where
+    pub str-quote : getD s i 0 ≡ 34 → To (i + 1) ≡ a
+    str-quote q = quote (omega arith) q
 
-    module _ (q : getD s e 0 ≡ 34 → ⊥) where
-      pub str-touch : e ≤ i → Miss ≡ a
+    module _ (q : getD s i 0 ≡ 34 → ⊥) where
+      pub str-next : (getD s i 0 ≡ 92 → ⊥) → start ≤ i → a ≡ strFrom (ltb start (i + 1)) (drop (i + 1) s) (i + 1)
       unfolding strFrom
-      str-touch l = sym (str-run ∙ rw (drop-step s e h, slash h q, le-ltb i e l))
+      str-next b l = v ∙ rw (drop-step s i (omega arith), ne-eqb _ _ q, ne-eqb _ _ b, lt-ltb start (i + 1) (omega arith))
 
-      -- b is the byte after the backslash, and r says whether it may stand there
-      module _ (l : i < e) (b : ℕ) (r : Bool) (u : b ≡ getD s (e + 1) 0) (w : r ≡ isEscaped b) where
-        str-slash : a ≡ escFrom (drop (e + 1) s) (e + 1)
+      -- a backslash
+      module _ (b : getD s i 0 ≡ 92) where
+        pub str-touch : i ≡ start → Miss ≡ a
         unfolding strFrom
-        str-slash = str-run ∙ rw (drop-step s e h, slash h q, lt-ltb i e l)
+        str-touch e = sym (v ∙ rw (drop-step s i (omega arith), b, e, le-ltb start start (omega arith)))
 
-        pub str-escape : r ≡ true → a ≡ strFrom false (drop (e + 2) s) (e + 2)
-        str-escape t = str-slash ∙ esc-at s (e + 1) ∙ rw (← u, ← w, t, add-assoc e 1 1)
+        -- r says whether the byte behind it may stand there
+        module _ (r : Bool) (l : start ≤ i) (n : i ≡ start → ⊥) (u : r ≡ isEscaped (getD s (i + 1) 0)) where
+          str-slash : a ≡ cond r (strFrom false (drop (i + 2) s) (i + 2)) Miss
+          unfolding strFrom escFrom
+          str-slash =
+              v
+              ∙ rw (drop-step s i (omega arith), b, lt-ltb start i (omega arith), drop-step s (i + 1) (omega arith), u, add-assoc i 1 1)
 
-        pub str-bad : r ≡ false → Miss ≡ a
-        str-bad t = sym (str-slash ∙ esc-at s (e + 1) ∙ rw (← u, ← w, t))
+          pub str-escape : r ≡ true → a ≡ strFrom (ltb (i + 2) (i + 2)) (drop (i + 2) s) (i + 2)
+          str-escape t = str-slash ∙ rw (t, le-ltb (i + 2) (i + 2) (omega arith))
 
-pub ruleset str-laws = (str-end, str-quote, str-touch, str-escape, str-bad)
+          pub str-bad : r ≡ false → Miss ≡ a
+          str-bad t = sym (str-slash ∙ rw t refl)
+
+  -- at it
+  module _ (k : 0 < length s) (h : i ≡ length s - 1) where
+    pub str-close : getD s i 0 ≡ 34 → To (i + 1) ≡ a
+    str-close q = quote (omega arith) q
+
+    pub str-open : (getD s i 0 ≡ 34 → ⊥) → Miss ≡ a
+    unfolding strFrom escFrom
+    str-open q =
+        let l : length s ≤ i + 1 = omega arith in
+        sym (v ∙ rw (drop-step s i (omega arith), ne-eqb _ _ q, drop-of-length-le s l) (go (eqb (getD s i 0) 92) (ltb start i)))
+      where
+        go : (b o : Bool) → cond b (cond o Miss Miss) Miss ≡ Miss
+        go true true = refl
+        go true false = refl
+        go false o = refl
+
+  -- and behind it
+  pub str-past : length s - 1 ≤ i → (i ≡ length s - 1 → ⊥) → Miss ≡ a
+  unfolding strFrom
+  str-past h n = let l : length s ≤ i = omega arith in sym (v ∙ rw (drop-of-length-le s l))
+
+pub ruleset str-laws = (str-quote, str-next, str-touch, str-escape, str-bad, str-close, str-open, str-past)

@@ -3,9 +3,9 @@ use Prim.Native.Nat.{ℕ, _+_}
 use mathlib.Core.Bool.{Bool, cond}
 use mathlib.Core.List.{List, [], _∷_}
 use lib.ListN.{drop}
-use Rattle.text.specs.Bytes.{isBlank, isSpace, isCapital, inComment, isOrdinary, inAccount, inCurrency, inTag, inLink, inLine}
+use Rattle.text.specs.Bytes.{isBlank, isSpace, isCapital, inComment, inLine}
 use Rattle.text.specs.declared.run.Class.{Class}
-use Rattle.text.specs.declared.run.Class.the-variants.{Blank, Space, Capital, Comment, Ordinary, Account, Currency, Tag, Link, Line}
+use Rattle.text.specs.declared.run.Class.the-variants.{Blank, Space, Capital, Comment, Line}
 
 -- the end of the longest run of bytes for which p holds, in a text that starts at place i
 unfoldable pub runFrom : (ℕ → Bool) → List ℕ → ℕ → ℕ
@@ -26,9 +26,4 @@ inClass Blank = isBlank
 inClass Space = isSpace
 inClass Capital = isCapital
 inClass Comment = inComment
-inClass Ordinary = isOrdinary
-inClass Account = inAccount
-inClass Currency = inCurrency
-inClass Tag = inTag
-inClass Link = inLink
 inClass Line = inLine

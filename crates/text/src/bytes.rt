@@ -1,7 +1,7 @@
 // Byte classes. The bytes that are met most often are tested first.
 ghost use mathlib.Core.Path.{_≡_};
 ghost use lib.ListN.{getD};
-ghost use Rattle.text.specs.Bytes.{isBlank, isSpace, isDigit, isSmall, isCapital, inLine, inComment, isOrdinary, isEscaped, startsPart, inAccount, inCurrency, inTag, inLink};
+ghost use Rattle.text.specs.Bytes.{isBlank, isSpace, isDigit, isSmall, isCapital, inLine, inComment, isOrdinary, isEscaped, startsPart, inCurrency};
 
 // The byte at a place, or 0 past the end.
 pub fn peek(s: &[u8], at: usize) -> u8
@@ -81,19 +81,6 @@ pub fn starts_part(b: u8) -> bool
     is_digit(b)
 }
 
-// Rule 6.
-pub fn in_account(b: u8) -> bool
-    ensures { λ r. ⌜ r ≡ inAccount b ⌝ }
-{
-    if is_small(b) {
-        return true;
-    }
-    if starts_part(b) {
-        return true;
-    }
-    b == b'-'
-}
-
 // Rule 7.
 pub fn in_currency(b: u8) -> bool
     ensures { λ r. ⌜ r ≡ inCurrency b ⌝ }
@@ -102,24 +89,4 @@ pub fn in_currency(b: u8) -> bool
         return true;
     }
     is_digit(b) | (b == b'-') | (b == b'_') | (b == b'.') | (b == b'\'')
-}
-
-// Rules 14 and 16.
-pub fn in_tag(b: u8) -> bool
-    ensures { λ r. ⌜ r ≡ inTag b ⌝ }
-{
-    if in_account(b) {
-        return true;
-    }
-    b == b'_'
-}
-
-// Rule 14.
-pub fn in_link(b: u8) -> bool
-    ensures { λ r. ⌜ r ≡ inLink b ⌝ }
-{
-    if in_tag(b) {
-        return true;
-    }
-    b == b'.'
 }

@@ -3,6 +3,7 @@ use crate::Read;
 use crate::bytes;
 use crate::run;
 use crate::run::Class;
+use crate::window;
 ghost use mathlib.Core.Path.{_≡_};
 ghost use Rattle.text.specs.Currencies.{currencyAt};
 
@@ -14,7 +15,7 @@ pub fn currency(s: &[u8], at: usize) -> Read
             // Capitals alone are the usual case: their run is the quicker one, and its last byte may end a currency.
             let c = run::run(s, at + 1, Class::Capital);
             if bytes::in_currency(bytes::peek(s, c)) {
-                let e = run::run(s, c + 1, Class::Currency);
+                let e = window::currency_run(s, c + 1);
                 if bytes::starts_part(bytes::peek(s, e - 1)) {
                     return Read::To(e);
                 }

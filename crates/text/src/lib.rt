@@ -8,6 +8,7 @@ pub mod permitted;
 pub mod run;
 pub mod string;
 pub mod tag;
+pub mod window;
 pub mod word;
 
 // What a token's reader answers: it read up to a place, or it missed.

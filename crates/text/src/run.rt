@@ -1,20 +1,15 @@
-// Longest runs of bytes of a class.
+// Longest runs of bytes of a class that few bytes make up, or all but few.
 use crate::bytes;
 ghost use mathlib.Core.Path.{_≡_};
 ghost use Prim.Native.Nat.{_≤_};
 ghost use Rattle.text.specs.Run.{runTo, inClass};
 
-// The classes of which a rule takes the longest run.
+// The classes of which a rule takes the longest run. Those with many kinds of bytes are in `window`.
 pub enum Class {
     Blank,
     Space,
     Capital,
     Comment,
-    Ordinary,
-    Account,
-    Currency,
-    Tag,
-    Link,
     Line,
 }
 
@@ -26,11 +21,6 @@ pub fn in_class(k: Class, b: u8) -> bool
         Class::Space => bytes::is_space(b),
         Class::Capital => bytes::is_capital(b),
         Class::Comment => bytes::in_comment(b),
-        Class::Ordinary => bytes::is_ordinary(b),
-        Class::Account => bytes::in_account(b),
-        Class::Currency => bytes::in_currency(b),
-        Class::Tag => bytes::in_tag(b),
-        Class::Link => bytes::in_link(b),
         Class::Line => bytes::in_line(b),
     }
 }

@@ -1,38 +1,46 @@
 // Strings (rule 5).
 use crate::Read;
 use crate::bytes;
-use crate::run;
-use crate::run::Class;
 ghost use mathlib.Core.Path.{_≡_};
 ghost use mathlib.Core.Bool.{false};
-ghost use lib.ListN.{drop};
+ghost use Prim.Native.Nat.{_<_};
+ghost use lib.ListN.{length, drop};
 ghost use Rattle.text.specs.Strings.{strFrom, stringAt};
 
-// The rest of a string, from after its opening quote or an escape: ordinary bytes, then a quote, or an escape if there were any.
+// The rest of a string, from after its opening quote: an escape needs an ordinary byte before it, so it stands neither there nor where the
+// last escape ended. The text's last byte, behind which no escaped one comes, is looked at by itself.
 fn string_rest(s: &[u8], at: usize) -> Read
+    requires { ⌜ 0 < length (now s) ⌝ }
     ensures { λ r. ⌜ r ≡ strFrom false (drop at (now (s .entry))) at ⌝ }
 {
+    let last = s.len() - 1;
+    let mut start = at;
     let mut i = at;
-    loop {
-        let e = run::run(s, i, Class::Ordinary);
-        if e < s.len() {
-            if s[e] == b'"' {
-                return Read::To(e + 1);
+    while i < last {
+        let b = s[i];
+        if b == b'"' {
+            return Read::To(i + 1);
+        }
+        if b == b'\\' {
+            if i == start {
+                return Read::Miss;
             }
-            if i < e {
-                let b = bytes::peek(s, e + 1);
-                if bytes::is_escaped(b) {
-                    i = e + 2;
-                } else {
-                    return Read::Miss;
-                }
+            if bytes::is_escaped(s[i + 1]) {
+                i += 2;
+                start = i;
             } else {
                 return Read::Miss;
             }
         } else {
-            return Read::Miss;
+            i += 1;
         }
     }
+    if i == last {
+        if s[i] == b'"' {
+            return Read::To(i + 1);
+        }
+    }
+    Read::Miss
 }
 
 pub fn string(s: &[u8], at: usize) -> Read

@@ -9,11 +9,11 @@ shared-slice-read-is-small c = search (needs, key-laws)
 is-small-requires : tie.Need-is-small-requires
 is-small-requires c κs = search (needs, key-laws)
 
-add-run : tie.Need-add-run
-add-run c = search (needs, key-laws)
+add-tag-run : tie.Need-add-tag-run
+add-tag-run c = search (needs, key-laws)
 
-run-requires : tie.Need-run-requires
-run-requires c κs = search (needs, key-laws)
+tag-run-requires : tie.Need-tag-run-requires
+tag-run-requires c κs = search (needs, key-laws)
 
 returns : tie.Need-returns
 returns c = search (needs, key-laws)
@@ -30,8 +30,8 @@ key-spec =
     (tie.spec
     shared-slice-read-is-small
     is-small-requires
-    add-run
-    run-requires
+    add-tag-run
+    tag-run-requires
     returns
     returns-2
     returns-3)

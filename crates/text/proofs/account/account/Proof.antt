@@ -9,14 +9,17 @@ shared-slice-read-starts-part c = search (needs, account-laws)
 starts-part-requires : tie.Need-starts-part-requires
 starts-part-requires c κs = search (needs, account-laws)
 
-add-run : tie.Need-add-run
-add-run c = search (needs, account-laws)
+add-parts-end : tie.Need-add-parts-end
+add-parts-end c = search (needs, account-laws)
 
-run-requires : tie.Need-run-requires
-run-requires c κs = search (needs, account-laws)
+parts-end-requires : tie.Need-parts-end-requires
+parts-end-requires c κs = search (needs, account-laws)
 
-parts-requires : tie.Need-parts-requires
-parts-requires c κs = search (needs, account-laws)
+add-first-part-end : tie.Need-add-first-part-end
+add-first-part-end c = search (needs, account-laws)
+
+first-part-end-requires : tie.Need-first-part-end-requires
+first-part-end-requires c κs = search (needs, account-laws)
 
 returns : tie.Need-returns
 returns c = search (needs, account-laws)
@@ -36,9 +39,10 @@ account-spec =
     (tie.spec
     shared-slice-read-starts-part
     starts-part-requires
-    add-run
-    run-requires
-    parts-requires
+    add-parts-end
+    parts-end-requires
+    add-first-part-end
+    first-part-end-requires
     returns
     returns-2
     returns-3

@@ -21,11 +21,11 @@ peek-requires c κs = search (needs, currency-laws)
 in-currency-requires : tie.Need-in-currency-requires
 in-currency-requires c κs = search (needs, currency-laws)
 
-add-run-2 : tie.Need-add-run-2
-add-run-2 c = search (needs, currency-laws)
+add-currency-run : tie.Need-add-currency-run
+add-currency-run c = search (needs, currency-laws)
 
-run-requires-2 : tie.Need-run-requires-2
-run-requires-2 c κs = search (needs, currency-laws)
+currency-run-requires : tie.Need-currency-run-requires
+currency-run-requires c κs = search (needs, currency-laws)
 
 sub-peek : tie.Need-sub-peek
 sub-peek c = search (needs, currency-laws)
@@ -61,8 +61,8 @@ currency-spec =
     run-requires
     peek-requires
     in-currency-requires
-    add-run-2
-    run-requires-2
+    add-currency-run
+    currency-run-requires
     sub-peek
     peek-requires-2
     starts-part-requires

@@ -30,36 +30,6 @@ in-comment-requires c κs = search (needs, name-laws)
 enum-told-5 : tie.Need-enum-told-5
 enum-told-5 c = search (needs, name-laws)
 
-is-ordinary-requires : tie.Need-is-ordinary-requires
-is-ordinary-requires c κs = search (needs, name-laws)
-
-enum-told-6 : tie.Need-enum-told-6
-enum-told-6 c = search (needs, name-laws)
-
-in-account-requires : tie.Need-in-account-requires
-in-account-requires c κs = search (needs, name-laws)
-
-enum-told-7 : tie.Need-enum-told-7
-enum-told-7 c = search (needs, name-laws)
-
-in-currency-requires : tie.Need-in-currency-requires
-in-currency-requires c κs = search (needs, name-laws)
-
-enum-told-8 : tie.Need-enum-told-8
-enum-told-8 c = search (needs, name-laws)
-
-in-tag-requires : tie.Need-in-tag-requires
-in-tag-requires c κs = search (needs, name-laws)
-
-enum-told-9 : tie.Need-enum-told-9
-enum-told-9 c = search (needs, name-laws)
-
-in-link-requires : tie.Need-in-link-requires
-in-link-requires c κs = search (needs, name-laws)
-
-enum-told-10 : tie.Need-enum-told-10
-enum-told-10 c = search (needs, name-laws)
-
 in-line-requires : tie.Need-in-line-requires
 in-line-requires c κs = search (needs, name-laws)
 
@@ -78,21 +48,6 @@ returns-4 c = search (needs, name-laws)
 returns-5 : tie.Need-returns-5
 returns-5 c = search (needs, name-laws)
 
-returns-6 : tie.Need-returns-6
-returns-6 c = search (needs, name-laws)
-
-returns-7 : tie.Need-returns-7
-returns-7 c = search (needs, name-laws)
-
-returns-8 : tie.Need-returns-8
-returns-8 c = search (needs, name-laws)
-
-returns-9 : tie.Need-returns-9
-returns-9 c = search (needs, name-laws)
-
-returns-10 : tie.Need-returns-10
-returns-10 c = search (needs, name-laws)
-
 pub in-class-spec : {M : Type 1} → statement M
 in-class-spec =
     tie.close
@@ -106,24 +61,9 @@ in-class-spec =
     enum-told-4
     in-comment-requires
     enum-told-5
-    is-ordinary-requires
-    enum-told-6
-    in-account-requires
-    enum-told-7
-    in-currency-requires
-    enum-told-8
-    in-tag-requires
-    enum-told-9
-    in-link-requires
-    enum-told-10
     in-line-requires
     returns
     returns-2
     returns-3
     returns-4
-    returns-5
-    returns-6
-    returns-7
-    returns-8
-    returns-9
-    returns-10)
+    returns-5)
