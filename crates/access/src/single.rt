@@ -3,6 +3,7 @@ use amount::expression;
 use amount::expression::Answer;
 use decimal::Decimal;
 use decimal::Value;
+use text::bytes;
 use text::permitted;
 ghost use mathlib.Core.Path.{_≡_};
 ghost use Rattle.access.specs.Single.{valueAnswer, readAnswer, evaluated};
@@ -17,18 +18,12 @@ pub enum Evaluated {
 // A text's bytes at the most (refusal 1).
 const SIZE: usize = 16_777_216;
 
-fn number(n: u8) -> usize
-    ensures { λ r. ⌜ r ≡ n ⌝ }
-{
-    n as usize
-}
-
 fn valued(e: usize, v: Value) -> Evaluated
     ensures { λ r. ⌜ r ≡ valueAnswer e v ⌝ }
 {
     match v {
         Value::Known(d) => Evaluated::Read(e, d),
-        Value::Refused(n) => Evaluated::Refusal(number(n), 0),
+        Value::Refused(n) => Evaluated::Refusal(bytes::wide(n), 0),
     }
 }
 

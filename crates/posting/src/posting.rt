@@ -104,12 +104,6 @@ fn holder_at(s: &[u8], at: usize, flag: usize, base: usize, table: &mut [u8], ou
     }
 }
 
-fn wide(b: u8) -> usize
-    ensures { λ r. ⌜ r ≡ b ⌝ }
-{
-    b as usize
-}
-
 // Optionally flag and gap, account, units, line end.
 fn flagged_at(s: &[u8], at: usize, base: usize, table: &mut [u8], out: Out) -> Ran
     requires { ⌜ (base ≤ 16777216) × (out .rows ≤ 33554427) ⌝ }
@@ -118,7 +112,7 @@ fn flagged_at(s: &[u8], at: usize, base: usize, table: &mut [u8], out: Out) -> R
     let f = flag_gap(s, at);
     match f {
         Read::To(j) => {
-            let b = wide(bytes::peek(s, at));
+            let b = bytes::wide(bytes::peek(s, at));
             holder_at(s, j, b, base, table, out)
         }
         Read::Miss => holder_at(s, at, 0, base, table, out),

@@ -3,6 +3,7 @@ use crate::table;
 use crate::table::Row;
 use amount::detail::Detail;
 use decimal::Value;
+use text::bytes;
 ghost use mathlib.Core.Path.{_≡_};
 ghost use mathlib.Core.List.{[], _∷_, map};
 ghost use Prim.Native.Nat.{_+_, _≤_};
@@ -33,12 +34,6 @@ fn is_spanned(kind: usize) -> bool
 }
 
 fn wide(n: u64) -> usize
-    ensures { λ r. ⌜ r ≡ n ⌝ }
-{
-    n as usize
-}
-
-fn number(n: u8) -> usize
     ensures { λ r. ⌜ r ≡ n ⌝ }
 {
     n as usize
@@ -107,7 +102,7 @@ fn note(out: Out, x: Detail) -> Out
             if bad == 0 {
                 Out {
                     rows,
-                    bad: number(n) + 1,
+                    bad: bytes::wide(n) + 1,
                     place: value_place(x),
                 }
             } else {

@@ -15,7 +15,7 @@ use Rattle.text.specs.declared.account.AccountRead.the-variants.{To, Mis
 use Rattle.text.specs.steps.Windows.{goesOn, firstStop}
 use Rattle.text.proofs.TestLaws.{or-left}
 use Rattle.text.proofs.Steps.{drop-step, head-drop, getD-past, run-on, run-stops, run-ends, run-out, run-same}
-use Rattle.text.proofs.WindowLaws.{first-stops, first-passed}
+use Rattle.text.proofs.WindowLaws.{first-says}
 
 -- ---- whether an account goes on
 
@@ -82,26 +82,9 @@ module _ (a : ℕ) (s : List ℕ) (i : ℕ) (v : a ≡ partsFrom (drop i s) i) w
 
   -- in windows: f is the first stop in one
   module _ (f : ℕ) (k : 16 < length s) (h : i < length s - 16) (u : f ≡ firstStop (λ (j : ℕ). goesOn (getD s (i + j) 0) (getD s (i + j + 1) 0)) 16 16) where
-    pub parts-stop : (w : ℕ) → w ≡ f → f < 16 → i + w ≡ a
-    parts-stop w e =
-        rw e
-        (first-stops
-        (λ (j : ℕ). partsFrom (drop j s) j)
-        (λ (j : ℕ). goesOn (getD s j 0) (getD s (j + 1) 0))
-        (length s)
-        (parts-on s)
-        (parts-off s)
-        a
-        i
-        16
-        f
-        v
-        (omega arith)
-        u)
-
-    pub parts-passed : 16 ≤ f → a ≡ partsFrom (drop (i + 16) s) (i + 16)
-    parts-passed =
-        first-passed
+    says : (f < 16 → i + f ≡ a) × (16 ≤ f → a ≡ partsFrom (drop (i + 16) s) (i + 16))
+    says =
+        first-says
         (λ (j : ℕ). partsFrom (drop j s) j)
         (λ (j : ℕ). goesOn (getD s j 0) (getD s (j + 1) 0))
         (length s)
@@ -114,6 +97,12 @@ module _ (a : ℕ) (s : List ℕ) (i : ℕ) (v : a ≡ partsFrom (drop i s) i) w
         v
         (omega arith)
         u
+
+    pub parts-stop : (w : ℕ) → w ≡ f → f < 16 → i + w ≡ a
+    parts-stop w e = rw e (says .0)
+
+    pub parts-passed : 16 ≤ f → a ≡ partsFrom (drop (i + 16) s) (i + 16)
+    parts-passed = says .1
 
 pub ruleset short-laws = (account-on, account-stops, account-ends)
 

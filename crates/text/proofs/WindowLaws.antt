@@ -77,21 +77,19 @@ module _ (R : ℕ → ℕ) (P : ℕ → Bool) (n : ℕ) (on : (j : ℕ) → j < 
 module _ (R : ℕ → ℕ) (P : ℕ → Bool) (n : ℕ) (on : (j : ℕ) → j < n → P j ≡ true → R j ≡ R (j + 1))
     (off : (j : ℕ) → j < n → P j ≡ false → R j ≡ j) (a i k f : ℕ) (v : a ≡ R i) (h : i + k ≤ n)
     (u : f ≡ firstStop (λ (j : ℕ). P (i + j)) k k) where
-  pub first-stops : f < k → i + f ≡ a
-  first-stops l = sym (v ∙ rw (← u) at (shows R P n on off i k k (omega arith) h) .0 l)
-
-  pub first-passed : k ≤ f → a ≡ R (i + k)
-  first-passed l = v ∙ rw (← u) at (shows R P n on off i k k (omega arith) h) .1 l .1
+  pub first-says : (f < k → i + f ≡ a) × (k ≤ f → a ≡ R (i + k))
+  first-says = let w = rw (← u) at (shows R P n on off i k k (omega arith) h) in ((λ l. sym (v ∙ w .0 l)), (λ l. v ∙ w .1 l .1))
 
 module _ (p : ℕ → Bool) (s : List ℕ) (a i f : ℕ) (v : a ≡ runTo p s i) (k : 32 ≤ length s) (h : i ≤ length s - 32)
     (u : f ≡ firstStop (λ (j : ℕ). p (getD s (i + j) 0)) 32 32) where
+  says : (f < 32 → i + f ≡ a) × (32 ≤ f → a ≡ runTo p s (i + 32))
+  says = first-says (λ (j : ℕ). runTo p s j) (λ (j : ℕ). p (getD s j 0)) (length s) (run-on p s) (run-stops p s) a i 32 f v (omega arith) u
+
   pub window-stops : (w : ℕ) → w ≡ f → f < 32 → i + w ≡ a
-  window-stops w e =
-      rw e (first-stops (λ (j : ℕ). runTo p s j) (λ (j : ℕ). p (getD s j 0)) (length s) (run-on p s) (run-stops p s) a i 32 f v (omega arith) u)
+  window-stops w e = rw e (says .0)
 
   pub window-passed : 32 ≤ f → a ≡ runTo p s (i + 32)
-  window-passed =
-      first-passed (λ (j : ℕ). runTo p s j) (λ (j : ℕ). p (getD s j 0)) (length s) (run-on p s) (run-stops p s) a i 32 f v (omega arith) u
+  window-passed = says .1
 
 pub ruleset window-laws = (window-stops, window-passed)
 

@@ -9,7 +9,7 @@ ghost use Rattle.text.specs.Run.{runTo};
 ghost use Rattle.text.specs.Accounts.{partsFrom, accountAt};
 ghost use Rattle.text.specs.steps.Windows.{goesOn, firstStop};
 
-// The bytes of a window; among places in it, none.
+// The bytes of a window, and what stands for no place in it.
 const WINDOW: usize = 16;
 
 const NONE: u8 = 16;
@@ -40,7 +40,7 @@ fn stop_in(s: &[u8], at: usize) -> u8
     let mut first = NONE;
     let mut i: u8 = 0;
     while i < NONE {
-        let p = at + window::wide(i);
+        let p = at + bytes::wide(i);
         let on = goes_on(s[p], s[p + 1]);
         first = window::lesser(first, window::stop_unless(on, NONE, i));
         i += 1;
@@ -73,7 +73,7 @@ fn parts_end(s: &[u8], at: usize) -> usize
         while i < last {
             let n = stop_in(s, i);
             if n < NONE {
-                return i + window::wide(n);
+                return i + bytes::wide(n);
             }
             i += WINDOW;
         }

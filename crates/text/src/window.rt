@@ -9,17 +9,12 @@ ghost use Rattle.text.specs.Bytes.{inCurrency, inTag, inLink};
 ghost use Rattle.text.specs.Run.{runTo};
 ghost use Rattle.text.specs.steps.Windows.{isAmong, firstStop};
 
-// The bytes of a window; among places in it, none.
+// The bytes of a window, and what stands for no place in it.
 const WINDOW: usize = 32;
 
 const NONE: u8 = 32;
 
-pub fn wide(n: u8) -> usize
-    ensures { λ r. ⌜ r ≡ n ⌝ }
-{
-    n as usize
-}
-
+// A function of its own, apart from the next: only so does the compiler see a minimum over the window, for which it needs no branch.
 pub fn lesser(a: u8, b: u8) -> u8
     ensures { λ r. ⌜ r ≡ min a b ⌝ }
 {
@@ -53,7 +48,7 @@ fn stop_in(s: &[u8], at: usize, small: u8, x: u8, y: u8) -> u8
     let mut first = NONE;
     let mut i: u8 = 0;
     while i < NONE {
-        let on = is_among(s[at + wide(i)], small, x, y);
+        let on = is_among(s[at + bytes::wide(i)], small, x, y);
         first = lesser(first, stop_unless(on, NONE, i));
         i += 1;
     }
@@ -85,7 +80,7 @@ fn run_of(s: &[u8], at: usize, small: u8, x: u8, y: u8) -> usize
         while i <= last {
             let n = stop_in(s, i, small, x, y);
             if n < NONE {
-                return i + wide(n);
+                return i + bytes::wide(n);
             }
             i += WINDOW;
         }

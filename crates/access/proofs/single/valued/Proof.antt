@@ -9,8 +9,8 @@ enum-known-v c = search (needs, single-laws)
 enum-known-v-2 : tie.Need-enum-known-v-2
 enum-known-v-2 c = search (needs, single-laws)
 
-number-requires : tie.Need-number-requires
-number-requires c κs = search (needs, single-laws)
+wide-requires : tie.Need-wide-requires
+wide-requires c κs = search (needs, single-laws)
 
 returns : tie.Need-returns
 returns c = search (needs, single-laws)
@@ -19,4 +19,4 @@ returns-2 : tie.Need-returns-2
 returns-2 c = search (needs, single-laws)
 
 pub valued-spec : {M : Type 1} → statement M
-valued-spec = tie.close (tie.spec enum-known-v enum-known-v-2 number-requires returns returns-2)
+valued-spec = tie.close (tie.spec enum-known-v enum-known-v-2 wide-requires returns returns-2)

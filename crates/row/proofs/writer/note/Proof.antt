@@ -12,8 +12,8 @@ enum-told c = search (needs, writing)
 enum-known-v : tie.Need-enum-known-v
 enum-known-v c = search (needs, writing)
 
-number-requires : tie.Need-number-requires
-number-requires c κs = search (needs, writing)
+wide-requires : tie.Need-wide-requires
+wide-requires c κs = search (needs, writing)
 
 add-t12 : tie.Need-add-t12
 add-t12 c = search (needs, writing)
@@ -37,7 +37,7 @@ note-spec =
     add-rows
     enum-told
     enum-known-v
-    number-requires
+    wide-requires
     add-t12
     value-place-requires
     returns
