@@ -1,10 +1,10 @@
-// Longest runs of bytes of a class that few bytes make up, or all but few.
+// Longest runs of bytes of a class that one or two tests tell, byte by byte.
 use crate::bytes;
 ghost use mathlib.Core.Path.{_≡_};
 ghost use Prim.Native.Nat.{_≤_};
 ghost use Rattle.text.specs.Run.{runTo, inClass};
 
-// The classes of which a rule takes the longest run. Those with many kinds of bytes are in `window`.
+// The classes of which a rule takes the longest run. Those with more kinds of bytes are in `window`.
 pub enum Class {
     Blank,
     Space,

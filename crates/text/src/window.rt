@@ -1,4 +1,4 @@
-// Longest runs of the classes with many kinds of bytes (rules 7, 14 and 16), a window of bytes at a time. The loop over a window has no way
+// Longest runs of the classes with more kinds of bytes (rules 7, 14 and 16), a window of bytes at a time. The loop over a window has no way
 // out, so that the compiler tests many bytes at once.
 use crate::bytes;
 ghost use mathlib.Core.Path.{_≡_};
@@ -88,7 +88,7 @@ fn run_of(s: &[u8], at: usize, small: u8, x: u8, y: u8) -> usize
     short_run(s, i, small, x, y)
 }
 
-// Rule 7. No small letter comes behind `z`.
+// Rule 7. From `{` on there is no small letter.
 pub fn currency_run(s: &[u8], at: usize) -> usize
     ensures { λ r. ⌜ r ≡ runTo inCurrency (now (s .entry)) at ⌝ }
     ensures { λ r. ⌜ at ≤ r ⌝ }
