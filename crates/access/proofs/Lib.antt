@@ -1,4 +1,5 @@
 pub mod SpanLaws
 pub mod SingleLaws
+pub mod ExactStays
 pub mod ContentLaws
 pub mod TagLaws

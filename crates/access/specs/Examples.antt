@@ -6,14 +6,15 @@ use mathlib.Core.Path.{_≡_, refl}
 use mathlib.Core.Bool.{true, false}
 use mathlib.Core.List.{List, [], _∷_, _++_, map}
 use lib.ListN.{length, replicate}
-use Rattle.decimal.specs.Exact.{decimalOf, exact, exactly, negated, sum, difference, product, quotient}
+use Rattle.decimal.specs.Exact.{decimalOf, exact, exactly, valueIn, negated, sum, difference, product, quotient}
+use Rattle.decimal.specs.declared.Form.the-variants.{Exact}
 use Rattle.text.specs.Bytes.{isBlank, isSpace, isDigit, isEscaped, bytes}
 use Rattle.text.specs.Run.{runFrom, runTo}
 use Rattle.text.specs.Answer.{_then_, _else_}
 use Rattle.text.specs.Permitted.{permitted, clean}
 use Rattle.text.specs.Strings.{strFrom, escFrom, stringAt}
 use Rattle.amount.specs.Literal.{inLiteral, count, number, places, plain, literalAs, unsigned, literal}
-use Rattle.amount.specs.Expression.{negatedValue, operated, combined, isPlus, isTimes, goesOn, chain, atom, products, sums, negation, inGroup, closed, group, within, expression}
+use Rattle.amount.specs.Expression.{negatedValue, operated, combined, isPlus, isTimes, goesOn, chain, atom, products, sums, negation, inGroup, closed, group, within, expressionIn}
 use Rattle.access.specs.Single.{valueAnswer, readAnswer, evaluated}
 use Rattle.access.specs.Contents.{endsAt, valid, unescaped, escapedByte, contentAnswer, contentLeft}
 use Rattle.access.specs.declared.single.Evaluated.{Evaluated}
@@ -65,9 +66,9 @@ singles =
     ∷ (replicate 33 40 ++ 0 ∷ [], Evaluated.Refusal 2 33)
     ∷ []
 
--- every single expression gives the answer that it says
-pub singles-answer : map (λ x. evaluated (x .0)) singles ≡ map (λ x. x .1) singles
-unfolding singles bytes permitted clean valueAnswer readAnswer evaluated isBlank isSpace isDigit runFrom runTo _then_ _else_ inLiteral count number places plain literalAs unsigned literal negatedValue operated combined isPlus isTimes goesOn chain atom products sums negation inGroup closed group within expression decimalOf exact exactly negated sum difference product quotient
+-- every single expression gives the answer that it says, in the exact form
+pub singles-answer : map (λ x. evaluated Exact (x .0)) singles ≡ map (λ x. x .1) singles
+unfolding singles bytes permitted clean valueAnswer readAnswer evaluated isBlank isSpace isDigit runFrom runTo _then_ _else_ inLiteral count number places plain literalAs unsigned literal negatedValue operated combined isPlus isTimes goesOn chain atom products sums negation inGroup closed group within expressionIn decimalOf exact exactly valueIn negated sum difference product quotient
 singles-answer = refl
 
 -- ---- string content: its answer with a buffer of four points, and the buffer afterwards

@@ -1,13 +1,14 @@
-// One expression, with its value and where it stops.
+// One expression in a form, with its value and where it stops.
 use amount::expression;
 use amount::expression::Answer;
 use decimal::Decimal;
+use decimal::Form;
 use decimal::Value;
 use text::bytes;
 use text::permitted;
 ghost use mathlib.Core.Path.{_≡_};
 ghost use Rattle.access.specs.Single.{valueAnswer, readAnswer, evaluated};
-ghost use Rattle.amount.specs.Expression.{expression};
+ghost use Rattle.amount.specs.Expression.{expressionIn};
 
 // Where it stops, with its value; or a refusal's number and place.
 pub enum Evaluated {
@@ -27,10 +28,10 @@ fn valued(e: usize, v: Value) -> Evaluated
     }
 }
 
-fn read_first(text: &[u8]) -> Evaluated
-    ensures { λ r. ⌜ r ≡ readAnswer (expression (now (text .entry)) 0) ⌝ }
+fn read_first(text: &[u8], form: Form) -> Evaluated
+    ensures { λ r. ⌜ r ≡ readAnswer (expressionIn form (now (text .entry)) 0) ⌝ }
 {
-    let a = expression::expression_at(text, 0);
+    let a = expression::expression_in(text, 0, form);
     match a {
         Answer::Read(e, v) => valued(e, v),
         Answer::Miss => Evaluated::Refusal(11, 0),
@@ -39,8 +40,8 @@ fn read_first(text: &[u8]) -> Evaluated
 }
 
 // The expression at the start of a text.
-pub fn evaluate(text: &[u8]) -> Evaluated
-    ensures { λ r. ⌜ r ≡ evaluated (now (text .entry)) ⌝ }
+pub fn evaluate(text: &[u8], form: Form) -> Evaluated
+    ensures { λ r. ⌜ r ≡ evaluated form (now (text .entry)) ⌝ }
 {
     if SIZE < text.len() {
         return Evaluated::Refusal(1, 0);
@@ -49,5 +50,5 @@ pub fn evaluate(text: &[u8]) -> Evaluated
     if c < text.len() {
         return Evaluated::Refusal(2, c);
     }
-    read_first(text)
+    read_first(text, form)
 }

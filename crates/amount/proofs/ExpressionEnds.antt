@@ -8,6 +8,7 @@ use native.Mathlib.Decide.{decLt}
 use borrow.Author.Tests.{eqb-true}
 use lib.Dec.{eqb}
 use lib.ListN.{getD, length, take, drop}
+use Rattle.decimal.specs.declared.Form.the-variants.{Rounding}
 use Rattle.decimal.specs.declared.Value.{Value}
 use Rattle.text.specs.Bytes.{isBlank, isSpace}
 use Rattle.text.specs.Run.{runTo, blanks}
@@ -15,7 +16,7 @@ use Rattle.text.specs.Answer.{Ans, To, Miss, Hard, _then_, _else_}
 use Rattle.text.proofs.Steps.{byte-within, getD-past, run-ends, run-from, run-within, run-first}
 use Rattle.text.proofs.Joins.{Reach, to-reach, miss-reach, hard-reach, reach-from, cond-reach, then-reach, else-reach}
 use Rattle.amount.specs.Literal.{inLiteral, count, plain, literalAs, between, unsigned, literal}
-use Rattle.amount.specs.Expression.{negatedValue, combined, isPlus, isTimes, goesOn, chain, atom, products, sums, negation, inGroup, closed, group, groups, within, expression}
+use Rattle.amount.specs.Expression.{Arithmetic, combined, expressionIn, negatedValue, isPlus, isTimes, goesOn, chain, atom, products, sums, negation, inGroup, closed, group, groups, within, expression}
 
 -- ---- runs from any place
 
@@ -73,35 +74,35 @@ module _ (s : List ℕ) where
   -- ---- operators and operands
 
   -- where no operator follows, nothing goes on
-  pub goes-off : (op : ℕ → Bool) (x : ℕ → Ans Value) (k : ℕ) (v : Value) (e : ℕ) → op (getD s (blanks s e) 0) ≡ false → goesOn op x s k v e ≡ To e v
+  pub goes-off : (calc : Arithmetic) (op : ℕ → Bool) (x : ℕ → Ans Value) (k : ℕ) (v : Value) (e : ℕ) → op (getD s (blanks s e) 0) ≡ false → goesOn calc op x s k v e ≡ To e v
   unfolding goesOn
-  goes-off op x zero v e f = refl
-  goes-off op x (suc k) v e f = rw f
+  goes-off calc op x zero v e f = refl
+  goes-off calc op x (suc k) v e f = rw f
 
   -- each operand x ends so
-  module _ (op : ℕ → Bool) (x : ℕ → Ans Value) (X : (i : ℕ) → Reach N (i + 1) (x i)) where
-    goes-reach : (k : ℕ) (v : Value) (e i : ℕ) → i ≤ e → e ≤ N → Reach N i (goesOn op x s k v e)
+  module _ (calc : Arithmetic) (op : ℕ → Bool) (x : ℕ → Ans Value) (X : (i : ℕ) → Reach N (i + 1) (x i)) where
+    goes-reach : (k : ℕ) (v : Value) (e i : ℕ) → i ≤ e → e ≤ N → Reach N i (goesOn calc op x s k v e)
     unfolding goesOn
     goes-reach zero v e i h l = to-reach N i e v h l
     goes-reach (suc k) v e i h l =
         let b = blanks s e in
         let j = blanks s (b + 1) in
-        cond-reach (λ a. a) N i (op (getD s b 0)) ((x j then λ f w. goesOn op x s k (combined (getD s b 0) v w) f) else To e v) (To e v)
-        (λ _. else-reach N i (x j then λ f w. goesOn op x s k (combined (getD s b 0) v w) f) (To e v)
-        (then-reach N (j + 1) i (x j) _ (X j) (λ f w p q. goes-reach k (combined (getD s b 0) v w) f i (omega (arith, run-up isBlank s e, run-up isBlank s (b + 1))) q))
+        cond-reach (λ a. a) N i (op (getD s b 0)) ((x j then λ f w. goesOn calc op x s k (calc (getD s b 0) v w) f) else To e v) (To e v)
+        (λ _. else-reach N i (x j then λ f w. goesOn calc op x s k (calc (getD s b 0) v w) f) (To e v)
+        (then-reach N (j + 1) i (x j) _ (X j) (λ f w p q. goes-reach k (calc (getD s b 0) v w) f i (omega (arith, run-up isBlank s e, run-up isBlank s (b + 1))) q))
         (to-reach N i e v h l))
         (λ _. to-reach N i e v h l)
 
-    chain-reach : (at : ℕ) → Reach N (at + 1) (chain op x s at)
+    chain-reach : (at : ℕ) → Reach N (at + 1) (chain calc op x s at)
     unfolding chain
     chain-reach at = then-reach N (at + 1) (at + 1) (x at) _ (X at) (λ e v p q. goes-reach N v e (at + 1) p q)
 
     -- any two counts of turns give the same, if both are enough for the bytes that are left
     module _ (none : op 0 ≡ false) where
-      goes-end : (k : ℕ) (v : Value) (e : ℕ) → N ≤ e → goesOn op x s k v e ≡ To e v
-      goes-end k v e h = goes-off op x k v e (rw (run-ends isBlank s e h, getD-past s e h) none)
+      goes-end : (k : ℕ) (v : Value) (e : ℕ) → N ≤ e → goesOn calc op x s k v e ≡ To e v
+      goes-end k v e h = goes-off calc op x k v e (rw (run-ends isBlank s e h, getD-past s e h) none)
 
-      pub goes-turns : (d k : ℕ) (v : Value) (e : ℕ) → N ≤ d + e → N ≤ k + e → goesOn op x s d v e ≡ goesOn op x s k v e
+      pub goes-turns : (d k : ℕ) (v : Value) (e : ℕ) → N ≤ d + e → N ≤ k + e → goesOn calc op x s d v e ≡ goesOn calc op x s k v e
       unfolding goesOn
       goes-turns zero k v e p q = sym (goes-end k v e (omega arith))
       goes-turns (suc d) zero v e p q = goes-end (suc d) v e (omega arith)
@@ -112,22 +113,22 @@ module _ (s : List ℕ) where
           (then-equal N (j + 1) (x j) _ _ (X j) (λ f w l m.
           let u = run-up isBlank s e in
           let t = run-up isBlank s (b + 1) in
-          goes-turns d k (combined (getD s b 0) v w) f (omega arith) (omega arith)))
+          goes-turns d k (calc (getD s b 0) v w) f (omega arith) (omega arith)))
 
   -- ---- the forms, where the groups g end so
 
-  module _ (g : ℕ → Ans Value) (G : (i : ℕ) → Reach N (i + 1) (g i)) where
+  module _ (calc : Arithmetic) (g : ℕ → Ans Value) (G : (i : ℕ) → Reach N (i + 1) (g i)) where
     pub atom-reach : (at : ℕ) → Reach N (at + 1) (atom g s at)
     unfolding atom
     atom-reach at = else-reach N (at + 1) (literal s at) (g at) (literal-reach at) (G at)
 
-    pub products-reach : (at : ℕ) → Reach N (at + 1) (products g s at)
+    pub products-reach : (at : ℕ) → Reach N (at + 1) (products calc g s at)
     unfolding products
-    products-reach at = chain-reach isTimes (atom g s) atom-reach at
+    products-reach at = chain-reach calc isTimes (atom g s) atom-reach at
 
-    pub sums-reach : (at : ℕ) → Reach N (at + 1) (sums g s at)
+    pub sums-reach : (at : ℕ) → Reach N (at + 1) (sums calc g s at)
     unfolding sums
-    sums-reach at = chain-reach isPlus (products g s) products-reach at
+    sums-reach at = chain-reach calc isPlus (products calc g s) products-reach at
 
     pub negation-reach : (at : ℕ) → Reach N (at + 1) (negation g s at)
     unfolding negation
@@ -136,9 +137,9 @@ module _ (s : List ℕ) where
         if-reach N (at + 1) (eqb (getD s at 0) 45) (g i then λ e v. To e (negatedValue v))
         (λ _. then-reach N (i + 1) (at + 1) (g i) _ (G i) (λ e v p q. to-reach N (at + 1) e _ (omega (arith, run-up isBlank s (at + 1))) q))
 
-    pub inGroup-reach : (at : ℕ) → Reach N (at + 1) (inGroup g s at)
+    pub inGroup-reach : (at : ℕ) → Reach N (at + 1) (inGroup calc g s at)
     unfolding inGroup
-    inGroup-reach at = else-reach N (at + 1) (negation g s at) (sums g s at) (negation-reach at) (sums-reach at)
+    inGroup-reach at = else-reach N (at + 1) (negation g s at) (sums calc g s at) (negation-reach at) (sums-reach at)
 
   closed-reach : (i e : ℕ) (v : Value) → i ≤ e → Reach N i (closed s e v)
   unfolding closed
@@ -147,19 +148,19 @@ module _ (s : List ℕ) where
       if-reach N i (eqb (getD s b 0) 41) (To (b + 1) v)
       (λ t. let w = byte-within s b 41 (sym (eqb-true _ 41 t)) (omega arith) in to-reach N i (b + 1) v (omega (arith, run-up isBlank s e)) (omega arith))
 
-  pub group-reach : (n at : ℕ) → Reach N (at + 1) (group n s at)
+  pub group-reach : (calc : Arithmetic) (n at : ℕ) → Reach N (at + 1) (group calc n s at)
   unfolding group
-  group-reach zero at = if-reach N (at + 1) (eqb (getD s at 0) 40) (Hard 3 at) (λ _. hard-reach N (at + 1) 3 at)
-  group-reach (suc n) at =
+  group-reach calc zero at = if-reach N (at + 1) (eqb (getD s at 0) 40) (Hard 3 at) (λ _. hard-reach N (at + 1) 3 at)
+  group-reach calc (suc n) at =
       let i = blanks s (at + 1) in
-      if-reach N (at + 1) (eqb (getD s at 0) 40) (inGroup (group n s) s i then closed s)
-      (λ _. then-reach N (i + 1) (at + 1) (inGroup (group n s) s i) (closed s) (inGroup-reach (group n s) (group-reach n) i)
+      if-reach N (at + 1) (eqb (getD s at 0) 40) (inGroup calc (group calc n s) s i then closed s)
+      (λ _. then-reach N (i + 1) (at + 1) (inGroup calc (group calc n s) s i) (closed s) (inGroup-reach calc (group calc n s) (group-reach calc n) i)
       (λ e v p q. closed-reach (at + 1) e v (omega (arith, run-up isBlank s (at + 1)))))
 
-  pub within-reach : (n at : ℕ) → Reach N (at + 1) (within n s at)
+  pub within-reach : (calc : Arithmetic) (n at : ℕ) → Reach N (at + 1) (within calc n s at)
   unfolding within
-  within-reach n at = inGroup-reach (group n s) (group-reach n) at
+  within-reach calc n at = inGroup-reach calc (group calc n s) (group-reach calc n) at
 
   pub expression-reach : (at : ℕ) → Reach N (at + 1) (expression s at)
-  unfolding expression
-  expression-reach at = within-reach groups at
+  unfolding expression expressionIn
+  expression-reach at = within-reach (combined Rounding) groups at

@@ -8,6 +8,7 @@ use native.Mathlib.Omega.{arith}
 use lib.Dec.{eqb}
 use lib.ListN.{getD, length, drop, length-append, length-drop}
 use lib.Seq.{take-append-le}
+use Rattle.decimal.specs.declared.Form.the-variants.{Rounding}
 use Rattle.decimal.specs.declared.Value.{Value}
 use Rattle.text.specs.Bytes.{isBlank, isSpace, isDigit}
 use Rattle.text.specs.Run.{runTo, blanks}
@@ -16,7 +17,7 @@ use Rattle.text.proofs.Joins.{Reach, Same, to-same, miss-same, cond-same, then-
 use Rattle.text.proofs.InLine.{no-lf, in-drop, starts}
 use Rattle.text.proofs.TokenSame.{xs, ys, s, in-line, same-byte, in-step, run-same, run-below}
 use Rattle.amount.specs.Literal.{inLiteral, plain, literalAs, between, unsigned, literal}
-use Rattle.amount.specs.Expression.{negatedValue, combined, isPlus, isTimes, goesOn, chain, atom, products, sums, negation, inGroup, closed, group, groups, within, expression}
+use Rattle.amount.specs.Expression.{Arithmetic, combined, expressionIn, negatedValue, isPlus, isTimes, goesOn, chain, atom, products, sums, negation, inGroup, closed, group, groups, within, expression}
 use Rattle.amount.proofs.ExpressionEnds.{goes-turns, atom-reach, products-reach, group-reach}
 
 -- an answer that is tested for
@@ -70,8 +71,8 @@ module _ (front t : List ℕ) (b : ℕ) (B : starts b ≡ true) where
 
   -- ---- operators and operands, where the operands x on S and y on X are such
 
-  module _ (op : ℕ → Bool) (n : op 10 ≡ false) (x y : ℕ → Ans Value) (E : (i : ℕ) → i < M → Same M (x i) (y i)) where
-    goes-same : (k : ℕ) (v : Value) (e : ℕ) → e < M → Same M (goesOn op x S k v e) (goesOn op y X k v e)
+  module _ (calc : Arithmetic) (op : ℕ → Bool) (n : op 10 ≡ false) (x y : ℕ → Ans Value) (E : (i : ℕ) → i < M → Same M (x i) (y i)) where
+    goes-same : (k : ℕ) (v : Value) (e : ℕ) → e < M → Same M (goesOn calc op x S k v e) (goesOn calc op y X k v e)
     unfolding goesOn
     goes-same zero v e h = to-same M e v h
     goes-same (suc k) v e h =
@@ -83,30 +84,30 @@ module _ (front t : List ℕ) (b : ℕ) (B : starts b ≡ true) where
         let j = after op n i hi o in
         rw (j .0)
         (else-same M _ _ (To e v) (To e v)
-        (then-same M M (x (blanks X (i + 1))) (y (blanks X (i + 1))) _ _ (E (blanks X (i + 1)) (j .1)) (λ f w l. goes-same k (combined (getD X i 0) v w) f l))
+        (then-same M M (x (blanks X (i + 1))) (y (blanks X (i + 1))) _ _ (E (blanks X (i + 1)) (j .1)) (λ f w l. goes-same k (calc (getD X i 0) v w) f l))
         (to-same M e v h)))
         (λ _. to-same M e v h))
 
-    chain-same : op 0 ≡ false → ((i : ℕ) → Reach M (i + 1) (y i)) → (at : ℕ) → at < M → Same M (chain op x S at) (chain op y X at)
+    chain-same : op 0 ≡ false → ((i : ℕ) → Reach M (i + 1) (y i)) → (at : ℕ) → at < M → Same M (chain calc op x S at) (chain calc op y X at)
     unfolding chain
     chain-same z R at h =
         then-same M M (x at) (y at) _ _ (E at h)
-        (λ e v l. subst (Same M (goesOn op x S (length S) v e)) (goes-turns X op y R z (length S) M v e (omega (arith, length-append X (ys front t b B))) (omega arith)) (goes-same (length S) v e l))
+        (λ e v l. subst (Same M (goesOn calc op x S (length S) v e)) (goes-turns X calc op y R z (length S) M v e (omega (arith, length-append X (ys front t b B))) (omega arith)) (goes-same (length S) v e l))
 
   -- ---- the forms, where the groups g on S and h on X are such
 
-  module _ (g h : ℕ → Ans Value) (R : (i : ℕ) → Reach M (i + 1) (h i)) (E : (i : ℕ) → i < M → Same M (g i) (h i)) where
+  module _ (calc : Arithmetic) (g h : ℕ → Ans Value) (R : (i : ℕ) → Reach M (i + 1) (h i)) (E : (i : ℕ) → i < M → Same M (g i) (h i)) where
     atom-same : (at : ℕ) → at < M → Same M (atom g S at) (atom h X at)
     unfolding atom
     atom-same at l = else-same M (literal S at) (literal X at) (g at) (h at) (literal-same at l) (E at l)
 
-    products-same : (at : ℕ) → at < M → Same M (products g S at) (products h X at)
+    products-same : (at : ℕ) → at < M → Same M (products calc g S at) (products calc h X at)
     unfolding products isTimes
-    products-same at l = chain-same isTimes refl (atom g S) (atom h X) atom-same refl (atom-reach X h R) at l
+    products-same at l = chain-same calc isTimes refl (atom g S) (atom h X) atom-same refl (atom-reach X calc h R) at l
 
-    sums-same : (at : ℕ) → at < M → Same M (sums g S at) (sums h X at)
+    sums-same : (at : ℕ) → at < M → Same M (sums calc g S at) (sums calc h X at)
     unfolding sums isPlus
-    sums-same at l = chain-same isPlus refl (products g S) (products h X) products-same refl (products-reach X h R) at l
+    sums-same at l = chain-same calc isPlus refl (products calc g S) (products calc h X) products-same refl (products-reach X calc h R) at l
 
     negation-same : (at : ℕ) → at < M → Same M (negation g S at) (negation h X at)
     unfolding negation
@@ -117,9 +118,9 @@ module _ (front t : List ℕ) (b : ℕ) (B : starts b ≡ true) where
         let j = after (λ c. eqb c 45) refl at l e in
         rw (j .0) (then-same M M (g (blanks X (at + 1))) (h (blanks X (at + 1))) _ _ (E (blanks X (at + 1)) (j .1)) (λ e v m. to-same M e (negatedValue v) m))))
 
-    inGroup-same : (at : ℕ) → at < M → Same M (inGroup g S at) (inGroup h X at)
+    inGroup-same : (at : ℕ) → at < M → Same M (inGroup calc g S at) (inGroup calc h X at)
     unfolding inGroup
-    inGroup-same at l = else-same M (negation g S at) (negation h X at) (sums g S at) (sums h X at) (negation-same at l) (sums-same at l)
+    inGroup-same at l = else-same M (negation g S at) (negation h X at) (sums calc g S at) (sums calc h X at) (negation-same at l) (sums-same at l)
 
   closed-same : (e : ℕ) (v : Value) → e < M → Same M (closed S e v) (closed X e v)
   unfolding closed
@@ -129,17 +130,21 @@ module _ (front t : List ℕ) (b : ℕ) (B : starts b ≡ true) where
       rw (blanks-same e h, same-byte front t b B i hi)
       (if-same M (eqb (getD X i 0) 41) (To (i + 1) v) (To (i + 1) v) (λ o. to-same M (i + 1) v (in-step front t b B (λ c. eqb c 41) refl i hi o)))
 
-  group-same : (n at : ℕ) → at < M → Same M (group n S at) (group n X at)
+  group-same : (calc : Arithmetic) (n at : ℕ) → at < M → Same M (group calc n S at) (group calc n X at)
   unfolding group
-  group-same zero at h = rw (same-byte front t b B at h) (if-same M (eqb (getD X at 0) 40) (Hard 3 at) (Hard 3 at) (λ _. record { eq = refl; stop = tt }))
-  group-same (suc n) at h =
+  group-same calc zero at h = rw (same-byte front t b B at h) (if-same M (eqb (getD X at 0) 40) (Hard 3 at) (Hard 3 at) (λ _. record { eq = refl; stop = tt }))
+  group-same calc (suc n) at h =
       rw (same-byte front t b B at h)
       (if-same M (eqb (getD X at 0) 40) _ _
       (λ e.
       let j = after (λ c. eqb c 40) refl at h e in
       rw (j .0)
-      (then-same M M _ _ (closed S) (closed X) (inGroup-same (group n S) (group n X) (group-reach X n) (group-same n) (blanks X (at + 1)) (j .1)) closed-same)))
+      (then-same M M _ _ (closed S) (closed X) (inGroup-same calc (group calc n S) (group calc n X) (group-reach X calc n) (group-same calc n) (blanks X (at + 1)) (j .1)) closed-same)))
+
+  pub within-same : (calc : Arithmetic) (n at : ℕ) → at < M → Same M (within calc n S at) (within calc n X at)
+  unfolding within
+  within-same calc n at h = inGroup-same calc (group calc n S) (group calc n X) (group-reach X calc n) (group-same calc n) at h
 
   pub expression-same : (at : ℕ) → at < M → Same M (expression S at) (expression X at)
-  unfolding expression within
-  expression-same at h = inGroup-same (group groups S) (group groups X) (group-reach X groups) (group-same groups) at h
+  unfolding expression expressionIn
+  expression-same at h = within-same (combined Rounding) groups at h

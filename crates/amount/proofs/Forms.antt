@@ -14,7 +14,7 @@ use Rattle.decimal.specs.declared.Value.{Value}
 use Rattle.text.specs.Run.{blanks}
 use Rattle.text.specs.Answer.{Ans, To, Miss, Hard, _then_, _else_}
 use Rattle.text.proofs.Steps.{byte-within, such-within}
-use Rattle.amount.specs.Expression.{negatedValue, combined, isPlus, isTimes, goesOn, atom, products, negation, inGroup, closed, group, within}
+use Rattle.amount.specs.Expression.{Arithmetic, negatedValue, isPlus, isTimes, goesOn, atom, products, negation, inGroup, closed, group, within}
 use Rattle.amount.specs.steps.Answers.{answerOf, operatorOf, operandOf, negatedAnswer, closedAnswer}
 use Rattle.amount.specs.declared.expression.Answer.{Answer}
 
@@ -75,47 +75,47 @@ ended true Miss y e v = refl
 ended true (Hard k i) y e v = refl
 ended false a y e v = refl
 
-goes-else : (op : ℕ → Bool) (x : ℕ → Ans Value) (s : List ℕ) (k : ℕ) (v : Value) (e : ℕ) (y : Ans Value) → (goesOn op x s k v e else y) ≡ goesOn op x s k v e
+goes-else : (calc : Arithmetic) (op : ℕ → Bool) (x : ℕ → Ans Value) (s : List ℕ) (k : ℕ) (v : Value) (e : ℕ) (y : Ans Value) → (goesOn calc op x s k v e else y) ≡ goesOn calc op x s k v e
 unfolding goesOn _else_
-goes-else op x s zero v e y = refl
-goes-else op x s (suc k) v e y =
+goes-else calc op x s zero v e y = refl
+goes-else calc op x s (suc k) v e y =
     let i = blanks s e in
-    ended (op (getD s i 0)) (x (blanks s (i + 1)) then λ f w. goesOn op x s k (combined (getD s i 0) v w) f) y e v
+    ended (op (getD s i 0)) (x (blanks s (i + 1)) then λ f w. goesOn calc op x s k (calc (getD s i 0) v w) f) y e v
 
-module _ (op : ℕ → Bool) (x : ℕ → Ans Value) (s : List ℕ) (k : ℕ) (v : Value) (e : ℕ) where
-  goes-none : k ≤ 0 → goesOn op x s k v e ≡ To e v
+module _ (calc : Arithmetic) (op : ℕ → Bool) (x : ℕ → Ans Value) (s : List ℕ) (k : ℕ) (v : Value) (e : ℕ) where
+  goes-none : k ≤ 0 → goesOn calc op x s k v e ≡ To e v
   unfolding goesOn
-  goes-none h = ap (λ n. goesOn op x s n v e) {x = k} {y = 0} (omega arith)
+  goes-none h = ap (λ n. goesOn calc op x s n v e) {x = k} {y = 0} (omega arith)
 
-  goes-one : 0 < k → goesOn op x s k v e ≡ goesOn op x s (suc (k - 1)) v e
-  goes-one h = ap (λ n. goesOn op x s n v e) {x = k} {y = suc (k - 1)} (omega arith)
+  goes-one : 0 < k → goesOn calc op x s k v e ≡ goesOn calc op x s (suc (k - 1)) v e
+  goes-one h = ap (λ n. goesOn calc op x s n v e) {x = k} {y = suc (k - 1)} (omega arith)
 
 -- k turns are left, which give o
-module _ (op : ℕ → Bool) (x : ℕ → Ans Value) (s : List ℕ) (k : ℕ) (v : Value) (e : ℕ) (o : Ans Value) (inv : goesOn op x s k v e ≡ o) where
+module _ (calc : Arithmetic) (op : ℕ → Bool) (x : ℕ → Ans Value) (s : List ℕ) (k : ℕ) (v : Value) (e : ℕ) (o : Ans Value) (inv : goesOn calc op x s k v e ≡ o) where
   pub goes-done : k ≤ 0 → Answer.Read e v ≡ answerOf o
   unfolding answerOf
-  goes-done h = ap answerOf (sym (goes-none op x s k v e h) ∙ inv)
+  goes-done h = ap answerOf (sym (goes-none calc op x s k v e h) ∙ inv)
 
   -- b is the byte after blanks, and t whether it is such an operator
   module _ (h : 0 < k) (i b : ℕ) (t : Bool) (p : i ≡ blanks s e) (q : b ≡ getD s i 0) (u : t ≡ op b) where
     pub goes-stop : t ≡ false → Answer.Read e v ≡ answerOf o
     unfolding goesOn answerOf
-    goes-stop f = ap answerOf (rw (goes-one op x s k v e h, ← p, ← q, ← u, f) at inv)
+    goes-stop f = ap answerOf (rw (goes-one calc op x s k v e h, ← p, ← q, ← u, f) at inv)
 
     -- r is the answer of the operand after it
     module _ (f : t ≡ true) (j : ℕ) (r : Answer) (l : j ≡ blanks s (i + 1)) (m : r ≡ answerOf (x j)) where
       pub goes-miss : r ≡ Answer.Miss → Answer.Read e v ≡ answerOf o
       unfolding goesOn answerOf _then_ _else_
-      goes-miss n = ap answerOf (rw (goes-one op x s k v e h, ← p, ← q, ← u, f, ← l, was-miss (x j) r m n) at inv)
+      goes-miss n = ap answerOf (rw (goes-one calc op x s k v e h, ← p, ← q, ← u, f, ← l, was-miss (x j) r m n) at inv)
 
       pub goes-deep : (d : ℕ) → r ≡ Answer.Deep d → Answer.Deep d ≡ answerOf o
       unfolding goesOn answerOf _then_ _else_
-      goes-deep d n = ap answerOf (rw (goes-one op x s k v e h, ← p, ← q, ← u, f, ← l, was-deep (x j) r d m n .1) at inv)
+      goes-deep d n = ap answerOf (rw (goes-one calc op x s k v e h, ← p, ← q, ← u, f, ← l, was-deep (x j) r d m n .1) at inv)
 
-      pub goes-more : (g : ℕ) (w z : Value) → r ≡ Answer.Read g w → z ≡ combined b v w → goesOn op x s (k - 1) z g ≡ o
+      pub goes-more : (g : ℕ) (w z : Value) → r ≡ Answer.Read g w → z ≡ calc b v w → goesOn calc op x s (k - 1) z g ≡ o
       unfolding goesOn answerOf _then_
       goes-more g w z n c =
-          rw (c, ← goes-else op x s (k - 1) (combined b v w) g (To e v)) (rw (goes-one op x s k v e h, ← p, ← q, ← u, f, ← l, was-read (x j) r g w m n) at inv)
+          rw (c, ← goes-else calc op x s (k - 1) (calc b v w) g (To e v)) (rw (goes-one calc op x s k v e h, ← p, ← q, ← u, f, ← l, was-read (x j) r g w m n) at inv)
 
 -- ---- groups and negations: b is the byte at the place
 
@@ -132,25 +132,25 @@ negated-answer Miss = refl
 negated-answer (Hard k i) = refl
 
 module _ (s : List ℕ) (at b : ℕ) (p : b ≡ getD s at 0) where
-  pub group-misses : (n : ℕ) → (b ≡ 40 → ⊥) → group n s at ≡ Miss
+  pub group-misses : (calc : Arithmetic) (n : ℕ) → (b ≡ 40 → ⊥) → group calc n s at ≡ Miss
   unfolding group
-  group-misses zero f = rw (← p, ne-eqb b 40 f)
-  group-misses (suc n) f = rw (← p, ne-eqb b 40 f)
+  group-misses calc zero f = rw (← p, ne-eqb b 40 f)
+  group-misses calc (suc n) f = rw (← p, ne-eqb b 40 f)
 
-  pub no-group : (n : ℕ) → (b ≡ 40 → ⊥) → Answer.Miss ≡ answerOf (group n s at)
+  pub no-group : (calc : Arithmetic) (n : ℕ) → (b ≡ 40 → ⊥) → Answer.Miss ≡ answerOf (group calc n s at)
   unfolding answerOf
-  no-group n f = rw (group-misses n f)
+  no-group calc n f = rw (group-misses calc n f)
 
-  pub deep-group : (n : ℕ) → b ≡ 40 → n ≡ 0 → Answer.Deep at ≡ answerOf (group n s at)
+  pub deep-group : (calc : Arithmetic) (n : ℕ) → b ≡ 40 → n ≡ 0 → Answer.Deep at ≡ answerOf (group calc n s at)
   unfolding group answerOf
-  deep-group zero f z = rw (← p, f)
-  deep-group (suc n) f z = absurd (omega arith)
+  deep-group calc zero f z = rw (← p, f)
+  deep-group calc (suc n) f z = absurd (omega arith)
 
   -- r is the answer of what stands inside
-  pub open-group : (n i : ℕ) (r o : Answer) → b ≡ 40 → (n ≡ 0 → ⊥) → i ≡ blanks s (at + 1) → r ≡ answerOf (within (n - 1) s i) → o ≡ closedAnswer s r → o ≡ answerOf (group n s at)
+  pub open-group : (calc : Arithmetic) (n i : ℕ) (r o : Answer) → b ≡ 40 → (n ≡ 0 → ⊥) → i ≡ blanks s (at + 1) → r ≡ answerOf (within calc (n - 1) s i) → o ≡ closedAnswer s r → o ≡ answerOf (group calc n s at)
   unfolding group within
-  open-group zero i r o f z q u w = absurd (z refl)
-  open-group (suc n) i r o f z q u w = rw (← p, f, ← q, w, u, sub-one (suc n)) (closed-answer s (inGroup (group n s) s i))
+  open-group calc zero i r o f z q u w = absurd (z refl)
+  open-group calc (suc n) i r o f z q u w = rw (← p, f, ← q, w, u, sub-one (suc n)) (closed-answer s (inGroup calc (group calc n s) s i))
 
   pub no-negation : (g : ℕ → Ans Value) → (b ≡ 45 → ⊥) → Answer.Miss ≡ answerOf (negation g s at)
   unfolding negation answerOf
@@ -201,13 +201,13 @@ zero-operates true = refl
 zero-operates false = refl
 
 module _ (times : Bool) where
-  pub times-operand : (g : ℕ → Ans Value) (s : List ℕ) (at : ℕ) (o : Answer) → times ≡ true → o ≡ answerOf (atom g s at) → o ≡ answerOf (operandOf times g s at)
+  pub times-operand : (calc : Arithmetic) (g : ℕ → Ans Value) (s : List ℕ) (at : ℕ) (o : Answer) → times ≡ true → o ≡ answerOf (atom g s at) → o ≡ answerOf (operandOf times calc g s at)
   unfolding operandOf
-  times-operand g s at o f p = rw f p
+  times-operand calc g s at o f p = rw f p
 
-  pub plus-operand : (g : ℕ → Ans Value) (s : List ℕ) (at : ℕ) (o : Answer) → times ≡ false → o ≡ answerOf (products g s at) → o ≡ answerOf (operandOf times g s at)
+  pub plus-operand : (calc : Arithmetic) (g : ℕ → Ans Value) (s : List ℕ) (at : ℕ) (o : Answer) → times ≡ false → o ≡ answerOf (products calc g s at) → o ≡ answerOf (operandOf times calc g s at)
   unfolding operandOf
-  plus-operand g s at o f p = rw f p
+  plus-operand calc g s at o f p = rw f p
 
 -- in the measure of the cycle: a sum stands above its products
 unfoldable pub stage : Bool → ℕ

@@ -7,6 +7,8 @@ pub mod Forms
 pub mod ExpressionEnds
 pub mod ExpressionSame
 pub mod Refusals
+pub mod FormsAgree
+pub mod NoExpression
 pub mod LoneLiteral
 pub mod AmountForms
 pub mod AmountLaws

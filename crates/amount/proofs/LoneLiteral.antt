@@ -8,6 +8,8 @@ use native.Mathlib.Decide.{decLt}
 use borrow.Author.Tests.{ne-eqb}
 use lib.Dec.{eqb}
 use lib.ListN.{getD, length}
+use Rattle.decimal.specs.declared.Form.{Form}
+use Rattle.decimal.specs.declared.Form.the-variants.{Exact, Rounding}
 use Rattle.decimal.specs.declared.Value.{Value}
 use Rattle.text.specs.Bytes.{isBlank, isSpace, isDigit}
 use Rattle.text.specs.Run.{runTo, blanks}
@@ -15,7 +17,7 @@ use Rattle.text.specs.Answer.{Ans, To, Miss, _then_, _else_}
 use Rattle.text.proofs.TestLaws.{absurd-bool, or-left, or-right, differ}
 use Rattle.text.proofs.Steps.{run-on, run-stops, run-same, run-first}
 use Rattle.amount.specs.Literal.{inLiteral, literalAs, between, unsigned, literal}
-use Rattle.amount.specs.Expression.{isPlus, isTimes, chain, atom, products, sums, negation, inGroup, group, within}
+use Rattle.amount.specs.Expression.{Arithmetic, combined, groups, expressionIn, expression, isPlus, isTimes, chain, atom, products, sums, negation, inGroup, group, within}
 use Rattle.amount.specs.steps.Answers.{answerOf, operatorOf}
 use Rattle.amount.specs.declared.expression.Answer.{Answer}
 use Rattle.amount.proofs.Forms.{was-read, was-deep, group-misses}
@@ -47,32 +49,32 @@ module _ (s : List ℕ) where
       run-same isSpace s (λ i. blanks s i) (λ i l o. run-on isBlank s i l (space-blank (getD s i 0) o)) b c e
       ∙ run-stops isBlank s c (h .0) (literal-blank (getD s c 0) (h .1))
 
-  negation-misses : (n at e : ℕ) (v : Value) → literal s at ≡ To e v → (t : Bool) → eqb (getD s at 0) 45 ≡ t → negation (group n s) s at ≡ Miss
+  negation-misses : (calc : Arithmetic) (n at e : ℕ) (v : Value) → literal s at ≡ To e v → (t : Bool) → eqb (getD s at 0) 45 ≡ t → negation (group calc n s) s at ≡ Miss
   unfolding negation literal unsigned _then_
-  negation-misses n at e v h false f = rw f
-  negation-misses n at e v h true f =
+  negation-misses calc n at e v h false f = rw f
+  negation-misses calc n at e v h true f =
       let c = runTo isSpace s (at + 1) in
       let b = first-byte true c (runTo inLiteral s c) e v refl (rw f at h) in
-      rw (f, spaces-end (at + 1) c refl b, group-misses s c (getD s c 0) refl n (literal-open (getD s c 0) (b .1)))
+      rw (f, spaces-end (at + 1) c refl b, group-misses s c (getD s c 0) refl calc n (literal-open (getD s c 0) (b .1)))
 
   -- ---- and nothing goes on from it
 
   module _ (e : ℕ) (v : Value) where
-    chain-off : (op : ℕ → Bool) (x : ℕ → Ans Value) (at : ℕ) → x at ≡ To e v → op (getD s (blanks s e) 0) ≡ false → chain op x s at ≡ To e v
+    chain-off : (calc : Arithmetic) (op : ℕ → Bool) (x : ℕ → Ans Value) (at : ℕ) → x at ≡ To e v → op (getD s (blanks s e) 0) ≡ false → chain calc op x s at ≡ To e v
     unfolding chain _then_
-    chain-off op x at h f = rw h (goes-off s op x (length s) v e f)
+    chain-off calc op x at h f = rw h (goes-off s calc op x (length s) v e f)
 
     lone-atom : (g : ℕ → Ans Value) (at : ℕ) → literal s at ≡ To e v → atom g s at ≡ To e v
     unfolding atom _else_
     lone-atom g at h = rw h
 
-    lone-sum : (g : ℕ → Ans Value) (at : ℕ) → literal s at ≡ To e v → isPlus (getD s (blanks s e) 0) ≡ false → isTimes (getD s (blanks s e) 0) ≡ false → sums g s at ≡ To e v
+    lone-sum : (calc : Arithmetic) (g : ℕ → Ans Value) (at : ℕ) → literal s at ≡ To e v → isPlus (getD s (blanks s e) 0) ≡ false → isTimes (getD s (blanks s e) 0) ≡ false → sums calc g s at ≡ To e v
     unfolding sums products
-    lone-sum g at h p t = chain-off isPlus (products g s) at (chain-off isTimes (atom g s) at (lone-atom g at h) t) p
+    lone-sum calc g at h p t = chain-off calc isPlus (products calc g s) at (chain-off calc isTimes (atom g s) at (lone-atom g at h) t) p
 
-    lone : (n at : ℕ) → literal s at ≡ To e v → isPlus (getD s (blanks s e) 0) ≡ false → isTimes (getD s (blanks s e) 0) ≡ false → within n s at ≡ To e v
+    lone : (calc : Arithmetic) (n at : ℕ) → literal s at ≡ To e v → isPlus (getD s (blanks s e) 0) ≡ false → isTimes (getD s (blanks s e) 0) ≡ false → within calc n s at ≡ To e v
     unfolding within inGroup _else_
-    lone n at h p t = rw (negation-misses n at e v h (eqb (getD s at 0) 45) refl) (lone-sum (group n s) at h p t)
+    lone calc n at h p t = rw (negation-misses calc n at e v h (eqb (getD s at 0) 45) refl) (lone-sum calc (group calc n s) at h p t)
 
 -- ---- the answers of the code
 
@@ -82,14 +84,27 @@ unfolding operatorOf
 operator-after s at i b x y p q u v = rw (← p, ← q, u, v)
 
 -- r is the answer of the literal, and t whether an operator follows
-module _ (s : List ℕ) (at : ℕ) (r : Answer) (p : r ≡ answerOf (literal s at)) (n : ℕ) where
-  pub lone-read : (e : ℕ) (v : Value) (t : Bool) → r ≡ Answer.Read e v → t ≡ (isPlus (getD s (blanks s e) 0) || isTimes (getD s (blanks s e) 0)) → t ≡ false → Answer.Read e v ≡ answerOf (within n s at)
+module _ (s : List ℕ) (at : ℕ) (r : Answer) (p : r ≡ answerOf (literal s at)) (calc : Arithmetic) (n : ℕ) where
+  pub lone-read : (e : ℕ) (v : Value) (t : Bool) → r ≡ Answer.Read e v → t ≡ (isPlus (getD s (blanks s e) 0) || isTimes (getD s (blanks s e) 0)) → t ≡ false → Answer.Read e v ≡ answerOf (within calc n s at)
   unfolding answerOf
   lone-read e v t q f o =
       let b = getD s (blanks s e) 0 in
-      rw (lone s e v n at (was-read (literal s at) r e v p q) (or-left (isPlus b) (isTimes b) (sym f ∙ o)) (or-right (isPlus b) (isTimes b) (sym f ∙ o)))
+      rw (lone s e v calc n at (was-read (literal s at) r e v p q) (or-left (isPlus b) (isTimes b) (sym f ∙ o)) (or-right (isPlus b) (isTimes b) (sym f ∙ o)))
 
-  pub lone-deep : (i : ℕ) → r ≡ Answer.Deep i → Answer.Deep i ≡ answerOf (within n s at)
+  pub lone-deep : (i : ℕ) → r ≡ Answer.Deep i → Answer.Deep i ≡ answerOf (within calc n s at)
   lone-deep i q = let h = was-deep (literal s at) r i p q in absurd (literal-soft s at (h .0) i (h .1))
+
+-- ---- an expression in a form: the exact one takes no short way
+
+module _ (form : Form) (s : List ℕ) (at : ℕ) (r : Answer) where
+  pub in-exact : form ≡ Exact → r ≡ answerOf (within (combined Exact) groups s at) → r ≡ answerOf (expressionIn form s at)
+  unfolding expressionIn
+  in-exact e p = rw e p
+
+  pub in-rounding : form ≡ Rounding → r ≡ answerOf (expression s at) → r ≡ answerOf (expressionIn form s at)
+  unfolding expression
+  in-rounding e p = rw e p
+
+pub ruleset form-laws = (in-exact, in-rounding)
 
 pub ruleset lone-laws = (operator-after, lone-read, lone-deep)

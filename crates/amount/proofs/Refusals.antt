@@ -5,11 +5,13 @@ use mathlib.Core.Bool.{Bool, true, false, cond}
 use mathlib.Core.List.{List}
 use lib.Dec.{eqb}
 use lib.ListN.{getD, length}
+use Rattle.decimal.specs.declared.Form.{Form}
+use Rattle.decimal.specs.declared.Form.the-variants.{Rounding}
 use Rattle.decimal.specs.declared.Value.{Value}
 use Rattle.text.specs.Run.{blanks}
 use Rattle.text.specs.Answer.{Ans, To, Miss, Hard, _then_, _else_}
 use Rattle.amount.specs.Literal.{plain, literalAs, unsigned, literal}
-use Rattle.amount.specs.Expression.{combined, isPlus, isTimes, goesOn, chain, atom, products, sums, negation, inGroup, closed, group, groups, within, expression}
+use Rattle.amount.specs.Expression.{Arithmetic, combined, expressionIn, isPlus, isTimes, goesOn, chain, atom, products, sums, negation, inGroup, closed, group, groups, within, expression}
 
 -- the numbers of an answer's refusals are such
 abbrev Only : (ℕ → Type 0) → Ans Value → Type 0
@@ -52,51 +54,59 @@ module _ (s : List ℕ) where
   pub literal-soft : (at k p : ℕ) → literal s at ≡ Hard k p → ⊥
   literal-soft at k p e = subst (Only (λ _. ⊥)) e (literal-only (λ _. ⊥) at)
 
-  module _ (op : ℕ → Bool) (x : ℕ → Ans Value) (X : (i : ℕ) → Three (x i)) where
-    goes-three : (k : ℕ) (v : Value) (e : ℕ) → Three (goesOn op x s k v e)
+  module _ (calc : Arithmetic) (op : ℕ → Bool) (x : ℕ → Ans Value) (X : (i : ℕ) → Three (x i)) where
+    goes-three : (k : ℕ) (v : Value) (e : ℕ) → Three (goesOn calc op x s k v e)
     unfolding goesOn
     goes-three zero v e = tt
     goes-three (suc k) v e =
         let i = blanks s e in
         cond-three (op (getD s i 0)) _ (To e v)
-        (else-three (x (blanks s (i + 1)) then λ f w. goesOn op x s k (combined (getD s i 0) v w) f) (To e v)
-        (then-three (x (blanks s (i + 1))) _ (X (blanks s (i + 1))) (λ f w. goes-three k (combined (getD s i 0) v w) f)) tt)
+        (else-three (x (blanks s (i + 1)) then λ f w. goesOn calc op x s k (calc (getD s i 0) v w) f) (To e v)
+        (then-three (x (blanks s (i + 1))) _ (X (blanks s (i + 1))) (λ f w. goes-three k (calc (getD s i 0) v w) f)) tt)
         tt
 
-    chain-three : (at : ℕ) → Three (chain op x s at)
+    chain-three : (at : ℕ) → Three (chain calc op x s at)
     unfolding chain
     chain-three at = then-three (x at) _ (X at) (λ e v. goes-three (length s) v e)
 
-  module _ (g : ℕ → Ans Value) (G : (i : ℕ) → Three (g i)) where
+  module _ (calc : Arithmetic) (g : ℕ → Ans Value) (G : (i : ℕ) → Three (g i)) where
     atom-three : (at : ℕ) → Three (atom g s at)
     unfolding atom
     atom-three at = else-three (literal s at) (g at) (literal-only (λ k. k ≡ 3) at) (G at)
 
-    products-three : (at : ℕ) → Three (products g s at)
+    products-three : (at : ℕ) → Three (products calc g s at)
     unfolding products
-    products-three = chain-three isTimes (atom g s) atom-three
+    products-three = chain-three calc isTimes (atom g s) atom-three
 
-    sums-three : (at : ℕ) → Three (sums g s at)
+    sums-three : (at : ℕ) → Three (sums calc g s at)
     unfolding sums
-    sums-three = chain-three isPlus (products g s) products-three
+    sums-three = chain-three calc isPlus (products calc g s) products-three
 
     negation-three : (at : ℕ) → Three (negation g s at)
     unfolding negation
     negation-three at = cond-three (eqb (getD s at 0) 45) _ Miss (then-three (g (blanks s (at + 1))) _ (G (blanks s (at + 1))) (λ e v. tt)) tt
 
-    inGroup-three : (at : ℕ) → Three (inGroup g s at)
+    inGroup-three : (at : ℕ) → Three (inGroup calc g s at)
     unfolding inGroup
-    inGroup-three at = else-three (negation g s at) (sums g s at) (negation-three at) (sums-three at)
+    inGroup-three at = else-three (negation g s at) (sums calc g s at) (negation-three at) (sums-three at)
 
-  group-three : (n at : ℕ) → Three (group n s at)
+  group-three : (calc : Arithmetic) (n at : ℕ) → Three (group calc n s at)
   unfolding group closed
-  group-three zero at = cond-three (eqb (getD s at 0) 40) (Hard 3 at) Miss refl tt
-  group-three (suc n) at =
+  group-three calc zero at = cond-three (eqb (getD s at 0) 40) (Hard 3 at) Miss refl tt
+  group-three calc (suc n) at =
       cond-three (eqb (getD s at 0) 40) _ Miss
-      (then-three (inGroup (group n s) s (blanks s (at + 1))) (closed s) (inGroup-three (group n s) (group-three n) (blanks s (at + 1)))
+      (then-three (inGroup calc (group calc n s) s (blanks s (at + 1))) (closed s) (inGroup-three calc (group calc n s) (group-three calc n) (blanks s (at + 1)))
       (λ e v. cond-three (eqb (getD s (blanks s e) 0) 41) (To (blanks s e + 1) v) Miss tt tt))
       tt
 
+  pub within-three : (calc : Arithmetic) (n at : ℕ) → Three (within calc n s at)
+  unfolding within
+  within-three calc n = inGroup-three calc (group calc n s) (group-three calc n)
+
+  pub expressionIn-three : (form : Form) (at : ℕ) → Three (expressionIn form s at)
+  unfolding expressionIn
+  expressionIn-three form = within-three (combined form) groups
+
   pub expression-three : (at : ℕ) → Three (expression s at)
-  unfolding expression within
-  expression-three = inGroup-three (group groups s) (group-three groups)
+  unfolding expression
+  expression-three = expressionIn-three Rounding

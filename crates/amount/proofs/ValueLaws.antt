@@ -3,6 +3,7 @@ use Prim.Native.Nat.{ℕ}
 use mathlib.Core.Path.{_≡_}
 use borrow.Author.Tests.{ne-eqb}
 use Rattle.decimal.specs.Exact.{negated, sum, difference, product, quotient}
+use Rattle.decimal.specs.declared.Form.{Form}
 use Rattle.decimal.specs.declared.Decimal.{Decimal}
 use Rattle.decimal.specs.declared.Value.{Value}
 use Rattle.decimal.specs.declared.Value.the-variants.{Known, Refused}
@@ -18,33 +19,33 @@ module _ (v r : Value) where
   negated-refused n p = rw p
 
 -- by the operator's byte
-module _ (op : ℕ) (a b : Decimal) (r : Value) where
-  pub by-plus : op ≡ 43 → r ≡ sum a b → r ≡ operated op a b
+module _ (form : Form) (op : ℕ) (a b : Decimal) (r : Value) where
+  pub by-plus : op ≡ 43 → r ≡ sum a b → r ≡ operated form op a b
   unfolding operated
   by-plus e q = rw e q
 
-  pub by-minus : op ≡ 45 → r ≡ difference a b → r ≡ operated op a b
+  pub by-minus : op ≡ 45 → r ≡ difference a b → r ≡ operated form op a b
   unfolding operated
   by-minus e q = rw e q
 
-  pub by-times : op ≡ 42 → r ≡ product a b → r ≡ operated op a b
+  pub by-times : op ≡ 42 → r ≡ product form a b → r ≡ operated form op a b
   unfolding operated
   by-times e q = rw e q
 
-  pub by-over : (op ≡ 43 → ⊥) → (op ≡ 45 → ⊥) → (op ≡ 42 → ⊥) → r ≡ quotient a b → r ≡ operated op a b
+  pub by-over : (op ≡ 43 → ⊥) → (op ≡ 45 → ⊥) → (op ≡ 42 → ⊥) → r ≡ quotient form a b → r ≡ operated form op a b
   unfolding operated
   by-over d e f q = rw (ne-eqb op 43 d, ne-eqb op 45 e, ne-eqb op 42 f) q
 
-module _ (op : ℕ) (v w : Value) where
-  pub both-known : (a b : Decimal) (r : Value) → v ≡ Known a → w ≡ Known b → r ≡ operated op a b → r ≡ combined op v w
+module _ (form : Form) (op : ℕ) (v w : Value) where
+  pub both-known : (a b : Decimal) (r : Value) → v ≡ Known a → w ≡ Known b → r ≡ operated form op a b → r ≡ combined form op v w
   unfolding combined
   both-known a b r p q u = rw (p, q) u
 
-  pub right-refused : (a : Decimal) (n : ℕ) → v ≡ Known a → w ≡ Refused n → Refused n ≡ combined op v w
+  pub right-refused : (a : Decimal) (n : ℕ) → v ≡ Known a → w ≡ Refused n → Refused n ≡ combined form op v w
   unfolding combined
   right-refused a n p q = rw (p, q)
 
-  pub left-refused : (n : ℕ) → v ≡ Refused n → Refused n ≡ combined op v w
+  pub left-refused : (n : ℕ) → v ≡ Refused n → Refused n ≡ combined form op v w
   unfolding combined
   left-refused n p = rw p
 

@@ -7,6 +7,8 @@ use mathlib.Core.List.{List}
 use lib.Dec.{eqb}
 use lib.ListN.{getD, length}
 use Rattle.decimal.specs.Exact.{negated, sum, difference, product, quotient}
+use Rattle.decimal.specs.declared.Form.{Form}
+use Rattle.decimal.specs.declared.Form.the-variants.{Rounding}
 use Rattle.decimal.specs.declared.Decimal.{Decimal}
 use Rattle.decimal.specs.declared.Value.{Value}
 use Rattle.decimal.specs.declared.Value.the-variants.{Known, Refused}
@@ -25,16 +27,20 @@ negatedValue (Known a) = negated a
 negatedValue (Refused n) = Refused n
 
 -- by the operator's byte: + - * /
-unfoldable pub operated : ℕ → Decimal → Decimal → Value
-operated op a b =
-    cond (eqb op 43) (sum a b) (cond (eqb op 45) (difference a b) (cond (eqb op 42) (product a b) (quotient a b)))
+unfoldable pub operated : Form → ℕ → Decimal → Decimal → Value
+operated form op a b =
+    cond (eqb op 43) (sum a b) (cond (eqb op 45) (difference a b) (cond (eqb op 42) (product form a b) (quotient form a b)))
 
-unfoldable pub combined : ℕ → Value → Value → Value
-combined op (Refused n) w = Refused n
-combined op (Known a) (Refused n) = Refused n
-combined op (Known a) (Known b) = operated op a b
+-- an arithmetic: what an operator's byte makes of two operands
+abbrev pub Arithmetic : Type 0
+Arithmetic = ℕ → Value → Value → Value
 
--- ---- the forms; g reads a group at a place
+unfoldable pub combined : Form → Arithmetic
+combined form op (Refused n) w = Refused n
+combined form op (Known a) (Refused n) = Refused n
+combined form op (Known a) (Known b) = operated form op a b
+
+-- ---- the rule, in an arithmetic calc, which no place depends on (`Agreement.antt`); g reads a group at a place
 
 unfoldable pub isPlus : ℕ → Bool
 isPlus b = eqb b 43 || eqb b 45
@@ -44,48 +50,53 @@ isTimes b = eqb b 42 || eqb b 47
 
 -- operators and operands x that go on from the value v, which ends at e: at most k of them. Where an operand misses, the reading ends
 -- before its operator.
-unfoldable pub goesOn : (ℕ → Bool) → (ℕ → Ans Value) → List ℕ → ℕ → Value → ℕ → Ans Value
-goesOn op x s zero v e = To e v
-goesOn op x s (suc k) v e =
+unfoldable pub goesOn : Arithmetic → (ℕ → Bool) → (ℕ → Ans Value) → List ℕ → ℕ → Value → ℕ → Ans Value
+goesOn calc op x s zero v e = To e v
+goesOn calc op x s (suc k) v e =
     let i = blanks s e in
-    let more = (x (blanks s (i + 1)) then λ f w. goesOn op x s k (combined (getD s i 0) v w) f) else To e v in
+    let more = (x (blanks s (i + 1)) then λ f w. goesOn calc op x s k (calc (getD s i 0) v w) f) else To e v in
     cond (op (getD s i 0)) more (To e v)
 
 -- an operand, and what goes on from it, left to right; each operator has a byte of its own
-unfoldable pub chain : (ℕ → Bool) → (ℕ → Ans Value) → List ℕ → ℕ → Ans Value
-chain op x s at = x at then λ e v. goesOn op x s (length s) v e
+unfoldable pub chain : Arithmetic → (ℕ → Bool) → (ℕ → Ans Value) → List ℕ → ℕ → Ans Value
+chain calc op x s at = x at then λ e v. goesOn calc op x s (length s) v e
 
 unfoldable pub atom : (ℕ → Ans Value) → List ℕ → ℕ → Ans Value
 atom g s at = let group = g at in literal s at else group
 
-unfoldable pub products : (ℕ → Ans Value) → List ℕ → ℕ → Ans Value
-products g s at = chain isTimes (atom g s) s at
+unfoldable pub products : Arithmetic → (ℕ → Ans Value) → List ℕ → ℕ → Ans Value
+products calc g s at = chain calc isTimes (atom g s) s at
 
-unfoldable pub sums : (ℕ → Ans Value) → List ℕ → ℕ → Ans Value
-sums g s at = chain isPlus (products g s) s at
+unfoldable pub sums : Arithmetic → (ℕ → Ans Value) → List ℕ → ℕ → Ans Value
+sums calc g s at = chain calc isPlus (products calc g s) s at
 
 unfoldable pub negation : (ℕ → Ans Value) → List ℕ → ℕ → Ans Value
 negation g s at =
     let group = g (blanks s (at + 1)) then λ e v. To e (negatedValue v) in
     cond (eqb (getD s at 0) 45) group Miss
 
-unfoldable pub inGroup : (ℕ → Ans Value) → List ℕ → ℕ → Ans Value
-inGroup g s at = let other = sums g s at in negation g s at else other
+unfoldable pub inGroup : Arithmetic → (ℕ → Ans Value) → List ℕ → ℕ → Ans Value
+inGroup calc g s at = let other = sums calc g s at in negation g s at else other
 
 -- blanks and `)` after a group's expression
 unfoldable pub closed : List ℕ → ℕ → Value → Ans Value
 closed s e v = cond (eqb (getD s (blanks s e) 0) 41) (To (blanks s e + 1) v) Miss
 
 -- a group where n more may open: refusal 3 at its `(` where none may
-unfoldable pub group : ℕ → List ℕ → ℕ → Ans Value
-group zero s at = cond (eqb (getD s at 0) 40) (Hard 3 at) Miss
-group (suc n) s at =
-    let inner = inGroup (group n s) s (blanks s (at + 1)) then closed s in
+unfoldable pub group : Arithmetic → ℕ → List ℕ → ℕ → Ans Value
+group calc zero s at = cond (eqb (getD s at 0) 40) (Hard 3 at) Miss
+group calc (suc n) s at =
+    let inner = inGroup calc (group calc n s) s (blanks s (at + 1)) then closed s in
     cond (eqb (getD s at 0) 40) inner Miss
 
 -- an expression where n groups may open one in another
-unfoldable pub within : ℕ → List ℕ → ℕ → Ans Value
-within n s at = inGroup (group n s) s at
+unfoldable pub within : Arithmetic → ℕ → List ℕ → ℕ → Ans Value
+within calc n s at = inGroup calc (group calc n s) s at
 
+-- rule 8 in a form (M-106)
+unfoldable pub expressionIn : Form → List ℕ → ℕ → Ans Value
+expressionIn form s at = within (combined form) groups s at
+
+-- the default: plain and recovering reading round
 unfoldable pub expression : List ℕ → ℕ → Ans Value
-expression s at = within groups s at
+expression s at = expressionIn Rounding s at

@@ -1,5 +1,6 @@
 pub mod Literal
 pub mod Expression
+pub mod Agreement
 pub mod Details
 pub mod Amounts
 pub mod Examples

@@ -1,6 +1,7 @@
 // Expressions (rule 8): the forms call each other in a cycle, in which the groups that may still open fall.
 use crate::literal;
 use decimal::Decimal;
+use decimal::Form;
 use decimal::Value;
 use text::bytes;
 use text::run;
@@ -10,7 +11,7 @@ ghost use mathlib.Core.Bool.{_||_};
 ghost use lib.ListN.{length, getD};
 ghost use Rattle.text.specs.Run.{blanks};
 ghost use Rattle.text.specs.Answer.{_then_};
-ghost use Rattle.amount.specs.Expression.{negatedValue, operated, combined, isPlus, isTimes, goesOn, atom, products, sums, negation, closed, group, within, expression};
+ghost use Rattle.amount.specs.Expression.{negatedValue, operated, combined, isPlus, isTimes, goesOn, atom, products, sums, negation, closed, group, within, expressionIn, expression};
 ghost use Rattle.amount.specs.steps.Answers.{answerOf, operatorOf, operandOf, negatedAnswer, closedAnswer};
 
 pub enum Answer {
@@ -33,8 +34,8 @@ fn negated(v: Value) -> Value
     }
 }
 
-fn operated_by(op: u8, a: Decimal, b: Decimal) -> Value
-    ensures { λ r. ⌜ r ≡ operated op a b ⌝ }
+fn operated_by(op: u8, a: Decimal, b: Decimal, form: Form) -> Value
+    ensures { λ r. ⌜ r ≡ operated form op a b ⌝ }
 {
     if op == b'+' {
         return decimal::add(a, b);
@@ -43,18 +44,18 @@ fn operated_by(op: u8, a: Decimal, b: Decimal) -> Value
         return decimal::sub(a, b);
     }
     if op == b'*' {
-        return decimal::mul(a, b);
+        return decimal::mul(a, b, form);
     }
-    decimal::div(a, b)
+    decimal::div(a, b, form)
 }
 
 // The left operand's refusal goes first, then the right one's, then the operation's own.
-fn combine(op: u8, v: Value, w: Value) -> Value
-    ensures { λ r. ⌜ r ≡ combined op v w ⌝ }
+fn combine(op: u8, v: Value, w: Value, form: Form) -> Value
+    ensures { λ r. ⌜ r ≡ combined form op v w ⌝ }
 {
     match v {
         Value::Known(a) => match w {
-            Value::Known(b) => operated_by(op, a, b),
+            Value::Known(b) => operated_by(op, a, b, form),
             Value::Refused(n) => Value::Refused(n),
         },
         Value::Refused(n) => Value::Refused(n),
@@ -100,43 +101,43 @@ fn negating(inner: Answer) -> Answer
 }
 
 // `left` more groups may open one in another.
-fn group_at(s: &[u8], at: usize, left: usize) -> Answer
-    ensures { λ r. ⌜ r ≡ answerOf (group left (now (s .entry)) at) ⌝ }
+fn group_at(s: &[u8], at: usize, left: usize, form: Form) -> Answer
+    ensures { λ r. ⌜ r ≡ answerOf (group (combined form) left (now (s .entry)) at) ⌝ }
 {
     if bytes::peek(s, at) == b'(' {
         if left == 0 {
             return Answer::Deep(at);
         }
-        let inner = within_at(s, run::run(s, at + 1, Class::Blank), left - 1);
+        let inner = within_at(s, run::run(s, at + 1, Class::Blank), left - 1, form);
         return closing(s, inner);
     }
     Answer::Miss
 }
 
-fn atom_at(s: &[u8], at: usize, left: usize) -> Answer
-    ensures { λ r. ⌜ r ≡ answerOf (atom (group left (now (s .entry))) (now (s .entry)) at) ⌝ }
+fn atom_at(s: &[u8], at: usize, left: usize, form: Form) -> Answer
+    ensures { λ r. ⌜ r ≡ answerOf (atom (group (combined form) left (now (s .entry))) (now (s .entry)) at) ⌝ }
 {
     let number = literal::literal_at(s, at);
     match number {
         Answer::Read(e, v) => Answer::Read(e, v),
-        Answer::Miss => group_at(s, at, left),
+        Answer::Miss => group_at(s, at, left, form),
         Answer::Deep(p) => Answer::Deep(p),
     }
 }
 
 // What `*` and `/` join where `times`, else what `+` and `-` join.
-fn operand_at(s: &[u8], at: usize, left: usize, times: bool) -> Answer
-    ensures { λ r. ⌜ r ≡ answerOf (operandOf times (group left (now (s .entry))) (now (s .entry)) at) ⌝ }
+fn operand_at(s: &[u8], at: usize, left: usize, times: bool, form: Form) -> Answer
+    ensures { λ r. ⌜ r ≡ answerOf (operandOf times (combined form) (group (combined form) left (now (s .entry))) (now (s .entry)) at) ⌝ }
 {
     if times {
-        return atom_at(s, at, left);
+        return atom_at(s, at, left, form);
     }
-    product_at(s, at, left)
+    product_at(s, at, left, form)
 }
 
 // Operators of one class with their operands, from a value on.
-fn chain_from(s: &[u8], from: usize, first: Value, left: usize, times: bool) -> Answer
-    ensures { λ r. ⌜ r ≡ answerOf (goesOn (operatorOf times) (operandOf times (group left (now (s .entry))) (now (s .entry))) (now (s .entry)) (length (now (s .entry))) first from) ⌝ }
+fn chain_from(s: &[u8], from: usize, first: Value, left: usize, times: bool, form: Form) -> Answer
+    ensures { λ r. ⌜ r ≡ answerOf (goesOn (combined form) (operatorOf times) (operandOf times (combined form) (group (combined form) left (now (s .entry))) (now (s .entry))) (now (s .entry)) (length (now (s .entry))) first from) ⌝ }
 {
     let mut end = from;
     let mut value = first;
@@ -145,10 +146,10 @@ fn chain_from(s: &[u8], from: usize, first: Value, left: usize, times: bool) -> 
         let i = run::run(s, end, Class::Blank);
         let op = bytes::peek(s, i);
         if is_operator(times, op) {
-            let next = operand_at(s, run::run(s, i + 1, Class::Blank), left, times);
+            let next = operand_at(s, run::run(s, i + 1, Class::Blank), left, times, form);
             match next {
                 Answer::Read(f, w) => {
-                    value = combine(op, value, w);
+                    value = combine(op, value, w, form);
                     end = f;
                 }
                 Answer::Miss => {
@@ -166,46 +167,46 @@ fn chain_from(s: &[u8], from: usize, first: Value, left: usize, times: bool) -> 
     Answer::Read(end, value)
 }
 
-fn product_at(s: &[u8], at: usize, left: usize) -> Answer
-    ensures { λ r. ⌜ r ≡ answerOf (products (group left (now (s .entry))) (now (s .entry)) at) ⌝ }
+fn product_at(s: &[u8], at: usize, left: usize, form: Form) -> Answer
+    ensures { λ r. ⌜ r ≡ answerOf (products (combined form) (group (combined form) left (now (s .entry))) (now (s .entry)) at) ⌝ }
 {
-    let first = atom_at(s, at, left);
+    let first = atom_at(s, at, left, form);
     match first {
-        Answer::Read(e, v) => chain_from(s, e, v, left, true),
+        Answer::Read(e, v) => chain_from(s, e, v, left, true, form),
         Answer::Miss => Answer::Miss,
         Answer::Deep(p) => Answer::Deep(p),
     }
 }
 
-fn sum_at(s: &[u8], at: usize, left: usize) -> Answer
-    ensures { λ r. ⌜ r ≡ answerOf (sums (group left (now (s .entry))) (now (s .entry)) at) ⌝ }
+fn sum_at(s: &[u8], at: usize, left: usize, form: Form) -> Answer
+    ensures { λ r. ⌜ r ≡ answerOf (sums (combined form) (group (combined form) left (now (s .entry))) (now (s .entry)) at) ⌝ }
 {
-    let first = product_at(s, at, left);
+    let first = product_at(s, at, left, form);
     match first {
-        Answer::Read(e, v) => chain_from(s, e, v, left, false),
+        Answer::Read(e, v) => chain_from(s, e, v, left, false, form),
         Answer::Miss => Answer::Miss,
         Answer::Deep(p) => Answer::Deep(p),
     }
 }
 
-fn negation_at(s: &[u8], at: usize, left: usize) -> Answer
-    ensures { λ r. ⌜ r ≡ answerOf (negation (group left (now (s .entry))) (now (s .entry)) at) ⌝ }
+fn negation_at(s: &[u8], at: usize, left: usize, form: Form) -> Answer
+    ensures { λ r. ⌜ r ≡ answerOf (negation (group (combined form) left (now (s .entry))) (now (s .entry)) at) ⌝ }
 {
     if bytes::peek(s, at) == b'-' {
-        let inner = group_at(s, run::run(s, at + 1, Class::Blank), left);
+        let inner = group_at(s, run::run(s, at + 1, Class::Blank), left, form);
         return negating(inner);
     }
     Answer::Miss
 }
 
 // An expression, where `left` groups may open one in another.
-fn within_at(s: &[u8], at: usize, left: usize) -> Answer
-    ensures { λ r. ⌜ r ≡ answerOf (within left (now (s .entry)) at) ⌝ }
+fn within_at(s: &[u8], at: usize, left: usize, form: Form) -> Answer
+    ensures { λ r. ⌜ r ≡ answerOf (within (combined form) left (now (s .entry)) at) ⌝ }
 {
-    let first = negation_at(s, at, left);
+    let first = negation_at(s, at, left, form);
     match first {
         Answer::Read(e, v) => Answer::Read(e, v),
-        Answer::Miss => sum_at(s, at, left),
+        Answer::Miss => sum_at(s, at, left, form),
         Answer::Deep(p) => Answer::Deep(p),
     }
 }
@@ -218,7 +219,7 @@ fn operator_follows(s: &[u8], at: usize) -> bool
     is_operator(false, op) | is_operator(true, op)
 }
 
-// Rule 8. A literal that no operator follows is all of it.
+// Rule 8 in the form of plain and recovering reading. A literal that no operator follows is all of it.
 pub fn expression_at(s: &[u8], at: usize) -> Answer
     ensures { λ r. ⌜ r ≡ answerOf (expression (now (s .entry)) at) ⌝ }
 {
@@ -226,12 +227,22 @@ pub fn expression_at(s: &[u8], at: usize) -> Answer
     match number {
         Answer::Read(e, _) => {
             if operator_follows(s, e) {
-                within_at(s, at, GROUPS)
+                within_at(s, at, GROUPS, Form::Rounding)
             } else {
                 number
             }
         }
-        Answer::Miss => within_at(s, at, GROUPS),
+        Answer::Miss => within_at(s, at, GROUPS, Form::Rounding),
         Answer::Deep(p) => Answer::Deep(p),
+    }
+}
+
+// Rule 8 in a form.
+pub fn expression_in(s: &[u8], at: usize, form: Form) -> Answer
+    ensures { λ r. ⌜ r ≡ answerOf (expressionIn form (now (s .entry)) at) ⌝ }
+{
+    match form {
+        Form::Exact => within_at(s, at, GROUPS, Form::Exact),
+        Form::Rounding => expression_at(s, at),
     }
 }

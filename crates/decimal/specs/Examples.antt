@@ -3,10 +3,12 @@ use Prim.Native.Nat.{ℕ}
 use mathlib.Core.Path.{_≡_, refl}
 use mathlib.Core.Bool.{true, false}
 use mathlib.Core.List.{List, [], _∷_, map}
+use Rattle.decimal.specs.declared.Form.the-variants.{Exact, Rounding}
 use Rattle.decimal.specs.declared.Decimal.{Decimal}
 use Rattle.decimal.specs.declared.Value.{Value}
 use Rattle.decimal.specs.declared.Value.the-variants.{Known, Refused}
-use Rattle.decimal.specs.Exact.{decimalOf, exact, exactly, negated, sum, difference, product, quotient}
+use Rattle.decimal.specs.Rounding.{roundedOf, nearestSize, nearest}
+use Rattle.decimal.specs.Exact.{decimalOf, exact, exactly, valueIn, negated, sum, difference, product, quotient}
 
 -- so many millionths, and as many below zero
 abbrev up : ℕ → Decimal
@@ -24,16 +26,27 @@ examples =
     ∷ (sum (down 1) (up 1), Known (up 0))
     ∷ (sum (up 999999999999999) (up 1), Refused 6)
     ∷ (sum (down 999999999999999) (up 1), Known (down 999999999999998))
-    ∷ (product (up 999999999999999) (up 1000001), Refused 6)
-    ∷ (product (up 1) (up 1), Refused 7)
-    ∷ (product (down 1500000) (up 2000000), Known (down 3000000))
-    ∷ (quotient (up 1000000) (up 3000000), Refused 7)
-    ∷ (quotient (up 1000000) (up 0), Refused 8)
-    ∷ (quotient (up 0) (up 0), Refused 8)
-    ∷ (quotient (up 3000000) (up 1500000), Known (up 2000000))
-    ∷ (quotient (up 999999999999999) (down 1), Refused 6)
+    ∷ (product Exact (up 999999999999999) (up 1000001), Refused 6)
+    ∷ (product Exact (up 1) (up 1), Refused 7)
+    ∷ (product Exact (down 1500000) (up 2000000), Known (down 3000000))
+    ∷ (quotient Exact (up 1000000) (up 3000000), Refused 7)
+    ∷ (quotient Exact (up 1000000) (up 0), Refused 8)
+    ∷ (quotient Exact (up 0) (up 0), Refused 8)
+    ∷ (quotient Exact (up 3000000) (up 1500000), Known (up 2000000))
+    ∷ (quotient Exact (up 999999999999999) (down 1), Refused 6)
+    ∷ (quotient Rounding (up 100000000) (up 3000000), Known (up 33333333))
+    ∷ (quotient Rounding (down 2000000) (up 3000000), Known (down 666667))
+    ∷ (product Rounding (up 1) (up 500000), Known (up 0))
+    ∷ (product Rounding (up 3) (up 500000), Known (up 2))
+    ∷ (product Rounding (down 1) (up 500000), Known (up 0))
+    ∷ (product Rounding (down 5) (up 500000), Known (down 2))
+    ∷ (product Rounding (up 999999999999999) (up 1000000), Known (up 999999999999999))
+    ∷ (quotient Rounding (up 1) (down 999999999999999), Known (up 0))
+    ∷ (quotient Rounding (up 1) (up 0), Refused 8)
+    ∷ (product Rounding (up 666666666666667) (up 1500000), Refused 6)
+    ∷ (product Rounding (up 666666666666666) (up 1500000), Known (up 999999999999999))
     ∷ []
 
 pub examples-hold : map (λ e. e .0) examples ≡ map (λ e. e .1) examples
-unfolding decimalOf exact exactly negated sum difference product quotient
+unfolding decimalOf exact exactly roundedOf nearestSize nearest valueIn negated sum difference product quotient
 examples-hold = refl

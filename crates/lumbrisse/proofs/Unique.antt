@@ -7,6 +7,7 @@ use lib.ListN.{length, take, drop}
 use Rattle.row.specs.Row.{width}
 use Rattle.ledger.specs.Plain.{Reading}
 use Rattle.ledger.specs.Answers.{answer, left}
+use Rattle.decimal.specs.declared.Form.{Form}
 use Rattle.access.specs.Single.{evaluated}
 use Rattle.access.specs.Contents.{contentAnswer, contentLeft}
 use Rattle.access.specs.Spans.{goodSpan, spanText}
@@ -29,8 +30,8 @@ table-unique a b = (same-defined (a .reply) (b .reply), same-defined (a .rows) (
 pub content-unique : {c t u v : List ℕ} {r q : Reply} → ContentPromise c t r u → ContentPromise c t q v → (r ≡ q) × (u ≡ v)
 content-unique a b = (same-defined (a .reply) (b .reply), same-defined (a .bytes) (b .bytes))
 
-pub expression-unique : (s : List ℕ) {r q : Evaluated} → ExpressionPromise s r → ExpressionPromise s q → r ≡ q
-expression-unique s a b = same-defined a b
+pub expression-unique : (form : Form) (s : List ℕ) {r q : Evaluated} → ExpressionPromise form s r → ExpressionPromise form s q → r ≡ q
+expression-unique form s a b = same-defined a b
 
 pub tag-unique : (s t : List ℕ) (k : ℕ) (tag : List ℕ) {r q : Reply} → TagPromise s t k tag r → TagPromise s t k tag q → r ≡ q
 tag-unique s t k tag a b = same-defined a b
@@ -46,8 +47,8 @@ table-total x t = (replyOf (answer x (length t / width)), (left x t, record { re
 pub content-total : (c t : List ℕ) → (r : Reply) × ((u : List ℕ) × ContentPromise c t r u)
 content-total c t = (contentReply (contentAnswer c (length t)), (contentLeft c t, record { reply = refl; bytes = refl }))
 
-pub expression-total : (s : List ℕ) → (r : Evaluated) × ExpressionPromise s r
-expression-total s = (evaluatedOf (evaluated s), refl)
+pub expression-total : (form : Form) (s : List ℕ) → (r : Evaluated) × ExpressionPromise form s r
+expression-total form s = (evaluatedOf (evaluated form s), refl)
 
 pub tag-total : (s t : List ℕ) (k : ℕ) (tag : List ℕ) → (r : Reply) × TagPromise s t k tag r
 tag-total s t k tag = (forceReply (inForce s t k tag), refl)

@@ -1,26 +1,26 @@
--- Document 01, "Both sides of each edge": one list under one statement, by computation.
-use Prim.Native.Nat.{ℕ, _-_}
+-- Document 01, "Both sides of each edge": one list under one statement, by computation. Expressions are in the exact
+-- form.
+use Prim.Native.Nat.{ℕ}
 use mathlib.Core.Path.{_≡_, refl}
 use mathlib.Core.List.{List, [], _∷_, _++_, map}
 use lib.ListN.{replicate}
+use Rattle.decimal.specs.declared.Form.the-variants.{Exact}
 use Rattle.text.specs.Bytes.{bytes}
 use Rattle.text.specs.declared.Read.{Read}
 use Rattle.ledger.specs.Plain.{accepted, denied}
-use Rattle.lumbrisse.specs.Asked.{Asked, Told, expression, ledger, currency, evaluated, reading, token, answered, row, withCost}
+use Rattle.lumbrisse.specs.Asked.{Asked, Told, ledger, currency, reading, token, answered, stops, stopsBelow, refuses, row, withCost}
 
 abbrev Edge : Type 0
 Edge = Asked × Told
 
--- an expression that stops at e: so many millionths, or as many below zero in two's complement
 abbrev is : List ℕ → ℕ → ℕ → Edge
-is s e n = (expression s, evaluated (record { number = 0; place = e; bits = n }))
+is = stops Exact
 
 abbrev less : List ℕ → ℕ → ℕ → Edge
-less s e n = is s e (18446744073709551616 - n)
+less = stopsBelow Exact
 
--- one that is refused with a number, at a place
 abbrev refused : List ℕ → ℕ → ℕ → Edge
-refused s n p = (expression s, evaluated (record { number = n; place = p; bits = 0 }))
+refused = refuses Exact
 
 -- so many groups around 2
 abbrev groups : ℕ → List ℕ

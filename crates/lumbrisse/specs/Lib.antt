@@ -2,4 +2,5 @@ pub mod Numbers
 pub mod Promises
 pub mod Asked
 pub mod Edges
+pub mod Roundings
 pub mod Easy

@@ -3,6 +3,7 @@ use Prim.Native.Nat.{ℕ, _/_}
 use mathlib.Core.Path.{_≡_}
 use mathlib.Core.List.{List}
 use lib.ListN.{length, take, drop}
+use Rattle.decimal.specs.declared.Form.{Form}
 use Rattle.row.specs.Row.{width}
 use Rattle.ledger.specs.Plain.{Reading}
 use Rattle.ledger.specs.Answers.{answer, left}
@@ -25,8 +26,9 @@ pub record ContentPromise (c t : List ℕ) (r : Reply) (u : List ℕ) : Type 0 w
   pub reply : r ≡ contentReply (contentAnswer c (length t))
   pub bytes : u ≡ contentLeft c t
 
-abbrev pub ExpressionPromise : List ℕ → Evaluated → Type 0
-ExpressionPromise s r = r ≡ evaluatedOf (evaluated s)
+-- the expression at a text's start, in a form
+abbrev pub ExpressionPromise : Form → List ℕ → Evaluated → Type 0
+ExpressionPromise form s r = r ≡ evaluatedOf (evaluated form s)
 
 abbrev pub TagPromise : List ℕ → List ℕ → ℕ → List ℕ → Reply → Type 0
 TagPromise s t k tag r = r ≡ forceReply (inForce s t k tag)

@@ -4,6 +4,7 @@ pub mod reply;
 use access::single;
 use access::span;
 use access::tables;
+use decimal::Form;
 use ledger::read;
 use recovery::recover;
 use reply::Evaluated;
@@ -31,12 +32,22 @@ pub extern "C" fn lumbrisse_recover(ledger: &[u8], table: &mut [u8]) -> Reply
     reply::reply_of(a)
 }
 
-// The expression at a text's start: its value and where it stops, or a refusal.
+// The expression at a text's start: its value and where it stops, or a refusal. Products and quotients round, as in
+// both readings.
 #[no_mangle]
 pub extern "C" fn lumbrisse_expression(text: &[u8]) -> Evaluated
-    ensures { λ r. ⌜ ExpressionPromise (now (text .entry)) r ⌝ }
+    ensures { λ r. ⌜ ExpressionPromise Form.Rounding (now (text .entry)) r ⌝ }
 {
-    let a = single::evaluate(text);
+    let a = single::evaluate(text, Form::Rounding);
+    reply::evaluated_of(a)
+}
+
+// The same in the exact form: a product or quotient that is no multiple of a millionth is refused (7).
+#[no_mangle]
+pub extern "C" fn lumbrisse_expression_exact(text: &[u8]) -> Evaluated
+    ensures { λ r. ⌜ ExpressionPromise Form.Exact (now (text .entry)) r ⌝ }
+{
+    let a = single::evaluate(text, Form::Exact);
     reply::evaluated_of(a)
 }
 

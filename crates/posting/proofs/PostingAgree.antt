@@ -5,23 +5,20 @@ use mathlib.Core.Path.{_≡_, refl, sym, _∙_}
 use mathlib.Core.Bool.{true, false}
 use mathlib.Core.List.{List, [], _∷_}
 use lib.ListN.{length, getD, length-append}
-use Rattle.text.specs.Bytes.{isCapital, isSpace, isDigit}
-use Rattle.text.specs.Run.{runTo}
+use Rattle.text.specs.Bytes.{isCapital}
 use Rattle.text.specs.Strings.{stringAt}
 use Rattle.text.specs.Currencies.{currencyAt}
 use Rattle.text.specs.Answer.{To, Miss, must, _then_, _and_, _else_}
 use Rattle.text.specs.Leaves.{token, string, currency, lineEnd}
 use Rattle.text.specs.declared.Read.{Read}
 use Rattle.text.proofs.InLine.{starts, start-bounds, line-end-misses}
-use Rattle.text.proofs.Steps.{byte-within, run-stops}
 use Rattle.text.proofs.Joins.{to-same, else-same, then-same, and-same}
 use Rattle.text.proofs.TokenEnds.{line-reach}
 use Rattle.text.proofs.TokenSame.{xs, ys, s, at-seam, same-byte, gap-same, line-same, empty-same, currency-same, byte-same}
 use Rattle.amount.specs.declared.detail.Detail.{Detail}
 use Rattle.amount.specs.Details.{named, valued}
-use Rattle.amount.specs.Literal.{inLiteral, literal, unsigned}
-use Rattle.amount.specs.Expression.{expression, within, inGroup, negation, sums, products, chain, atom, group, groups}
-use Rattle.amount.proofs.ExpressionEnds.{none-between}
+use Rattle.amount.specs.Expression.{expression}
+use Rattle.amount.proofs.NoExpression.{no-expression}
 use Rattle.amount.proofs.ExpressionSame.{expression-same}
 use Rattle.row.proofs.SureLaws.{Sure, sure-many}
 use Rattle.posting.specs.Metadata.{quoted, value, metaLine, metaStep, metadata}
@@ -42,36 +39,13 @@ quote-at row s at j x e = go (stringAt s at) refl e
     go Read.Miss p q = absurd (let z : _≡_ {A = ℕ} 0 1 = cc in omega arith)
 
 module _ (s : List ℕ) (at : ℕ) (e : getD s at 0 ≡ 34) where
-  there : at < length s
-  there = byte-within s at 34 (sym e) (omega arith)
-
-  no-space : runTo isSpace s at ≡ at
-  unfolding isSpace
-  no-space = run-stops isSpace s at there (rw e refl)
-
-  no-digits : runTo inLiteral s at ≡ at
-  unfolding inLiteral isDigit
-  no-digits = run-stops inLiteral s at there (rw e refl)
-
-  no-literal : literal s at ≡ Miss
-  unfolding literal unsigned
-  no-literal = rw (e, no-space) (none-between s false at (runTo inLiteral s at) (omega (arith, no-digits)))
-
-  no-group : group groups s at ≡ Miss
-  unfolding group
-  no-group = rw e
-
-  no-expression : expression s at ≡ Miss
-  unfolding expression within inGroup negation sums products chain atom _then_ _else_
-  no-expression = rw (e, no-literal, no-group)
-
   no-currency : currency {A = Detail} s at ≡ Miss
   unfolding currency token currencyAt isCapital
   no-currency = rw e
 
   no-value : (k c : ℕ) → ((expression s at then λ e v. To e (valued 36 k c at e v ∷ [])) else (currency s at and λ e. To e (named 37 k c at e ∷ []))) ≡ Miss
   unfolding _then_ _and_ _else_
-  no-value k c = rw (no-expression, no-currency)
+  no-value k c = rw (no-expression s at e, no-currency)
 
 module _ (front t : List ℕ) (b : ℕ) (B : starts b ≡ true) where
   abbrev X : List ℕ

@@ -3,6 +3,7 @@ use Prim.Native.Nat.{ℕ}
 use mathlib.Core.Path.{_≡_}
 use mathlib.Core.List.{List}
 use borrow.Author.Tests.{ne-eqb}
+use Rattle.decimal.specs.declared.Form.the-variants.{Exact, Rounding}
 use Rattle.ledger.specs.Plain.{plain}
 use Rattle.recovery.specs.Recovering.{recovered}
 use Rattle.lumbrisse.specs.Promises.{TablePromise, ContentPromise, ExpressionPromise, TagPromise, SpanPromise}
@@ -33,18 +34,23 @@ module _ (k a b : ℕ) (s u t : List ℕ) where
     unfolding outcome
     made-force e p = rw (w, e, p)
 
-  pub made-single : (o : Outcome) (r : box.Evaluated.Evaluated) → o ≡ Outcome.Answered (ofEvaluated r) → k ≡ 3 → ExpressionPromise s r → o ≡ outcome k a b s u t
-  unfolding outcome
-  made-single o r w e p = rw (w, e, p)
+  module _ (o : Outcome) (r : box.Evaluated.Evaluated) (w : o ≡ Outcome.Answered (ofEvaluated r)) where
+    pub made-single : k ≡ 3 → ExpressionPromise Rounding s r → o ≡ outcome k a b s u t
+    unfolding outcome
+    made-single e p = rw (w, e, p)
+
+    pub made-single-exact : k ≡ 9 → ExpressionPromise Exact s r → o ≡ outcome k a b s u t
+    unfolding outcome
+    made-single-exact e p = rw (w, e, p)
 
   pub made-part : (o : Outcome) (r : box.Part.Part) → o ≡ Outcome.Answered (ofPart r) → k ≡ 5 → SpanPromise s a b r → o ≡ outcome k a b s u t
   unfolding outcome
   made-part o r w e p = rw (w, e, p .part)
 
   module _ (n1 : k ≡ 1 → ⊥) (n2 : k ≡ 2 → ⊥) (n4 : k ≡ 4 → ⊥) where
-    pub made-unknown : (k ≡ 3 → ⊥) → (k ≡ 5 → ⊥) → (k ≡ 6 → ⊥) → Outcome.Unknown ≡ outcome k a b s u t
+    pub made-unknown : (k ≡ 3 → ⊥) → (k ≡ 5 → ⊥) → (k ≡ 6 → ⊥) → (k ≡ 9 → ⊥) → Outcome.Unknown ≡ outcome k a b s u t
     unfolding outcome
-    made-unknown n3 n5 n6 = rw (ne-eqb k 1 n1, ne-eqb k 2 n2, ne-eqb k 3 n3, ne-eqb k 4 n4, ne-eqb k 5 n5, ne-eqb k 6 n6)
+    made-unknown n3 n5 n6 n9 = rw (ne-eqb k 1 n1, ne-eqb k 2 n2, ne-eqb k 3 n3, ne-eqb k 4 n4, ne-eqb k 5 n5, ne-eqb k 6 n6, ne-eqb k 9 n9)
 
 -- ---- the lent buffer: w is what the call left
 module _ (k : ℕ) (s t : List ℕ) where
@@ -72,8 +78,12 @@ module _ (k : ℕ) (s t : List ℕ) where
   unfolding leftBy
   left-six e = rw e
 
+  pub left-nine : k ≡ 9 → t ≡ leftBy k s t
+  unfolding leftBy
+  left-nine e = rw e
+
   pub left-unknown : (k ≡ 1 → ⊥) → (k ≡ 2 → ⊥) → (k ≡ 4 → ⊥) → t ≡ leftBy k s t
   unfolding leftBy
   left-unknown n1 n2 n4 = rw (ne-eqb k 1 n1, ne-eqb k 2 n2, ne-eqb k 4 n4)
 
-pub ruleset made-laws = (evaluated-told, made-plain, made-recovering, made-single, made-content, made-part, made-force, made-unknown, left-plain, left-recovering, left-content, left-three, left-five, left-six, left-unknown)
+pub ruleset made-laws = (evaluated-told, made-plain, made-recovering, made-single, made-single-exact, made-content, made-part, made-force, made-unknown, left-plain, left-recovering, left-content, left-three, left-five, left-six, left-nine, left-unknown)

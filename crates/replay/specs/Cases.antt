@@ -2,7 +2,8 @@
 -- lent buffer before the call (1: row table; 4: output; 6: the row table that is read) and as it must be after it. The header has numbers
 -- of four bytes: the call, a, b, two that no call takes, the bytes of the first text, of the second and of the buffer, then what must be
 -- answered: number (0: accepted), place, count and one that is 0; last the value, of eight bytes.
--- Calls: 1 plain reading, 2 recovering reading, 3 single expression, 4 string content, 5 text of a span from a to b, 6 tag in force after a rows.
+-- Calls: 1 plain reading, 2 recovering reading, 3 single expression, 4 string content, 5 text of a span from a to b, 6
+-- tag in force after a rows, 9 single expression in the exact form (M-106; 3 rounds).
 use mathlib.Core.List.{List}
 use Prim.Native.Nat.{ℕ}
 use Rattle.row.specs.Field.{fieldAt}

@@ -7,6 +7,7 @@ use lib.ListN.{length}
 use Rattle.ledger.specs.Plain.{plain}
 use Rattle.ledger.specs.Answers.{answer, left}
 use Rattle.recovery.specs.Recovering.{recovered}
+use Rattle.decimal.specs.declared.Form.the-variants.{Exact, Rounding}
 use Rattle.access.specs.Single.{evaluated}
 use Rattle.access.specs.Contents.{contentAnswer, contentLeft}
 use Rattle.access.specs.Tables.{inForce}
@@ -31,13 +32,15 @@ unfoldable pub outcome : ℕ → ℕ → ℕ → List ℕ → List ℕ → List 
 outcome k a b s u t =
     let plainly = Outcome.Answered (ofReply (replyOf (answer (plain s) (length t / 32)))) in
     let recovering = Outcome.Answered (ofReply (replyOf (answer (recovered s) (length t / 32)))) in
-    let single = Outcome.Answered (ofEvaluated (evaluatedOf (evaluated s))) in
+    let single = Outcome.Answered (ofEvaluated (evaluatedOf (evaluated Rounding s))) in
+    let singleExact = Outcome.Answered (ofEvaluated (evaluatedOf (evaluated Exact s))) in
     let content = Outcome.Answered (ofReply (contentReply (contentAnswer s (length t)))) in
     let part = Outcome.Answered (ofPart (partOf s a b)) in
     let force = Outcome.Answered (ofReply (forceReply (inForce s t a u))) in
     cond (eqb k 1) plainly
     (cond (eqb k 2) recovering
-    (cond (eqb k 3) single (cond (eqb k 4) content (cond (eqb k 5) part (cond (eqb k 6) force Outcome.Unknown)))))
+    (cond (eqb k 3) single
+    (cond (eqb k 4) content (cond (eqb k 5) part (cond (eqb k 6) force (cond (eqb k 9) singleExact Outcome.Unknown))))))
 
 -- the lent buffer afterwards: both readings and string content write
 unfoldable pub leftBy : ℕ → List ℕ → List ℕ → List ℕ

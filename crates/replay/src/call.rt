@@ -16,6 +16,8 @@ pub const SPAN: usize = 5;
 
 pub const FORCE: usize = 6;
 
+pub const SINGLE_EXACT: usize = 9;
+
 // Number 0: accepted. What an answer has not is 0.
 pub struct Reply {
     pub number: usize,
@@ -88,6 +90,7 @@ pub fn made(
         CONTENT => of_reply(lumbrisse::lumbrisse_content(first, lent)),
         SPAN => of_part(lumbrisse::lumbrisse_span(first, a, b)),
         FORCE => of_reply(lumbrisse::lumbrisse_tag_in_force(first, lent, a, second)),
+        SINGLE_EXACT => of_evaluated(lumbrisse::lumbrisse_expression_exact(first)),
         _ => Outcome::Unknown,
     }
 }

@@ -19,6 +19,7 @@ fn write_name(call: usize) {
         call::CONTENT => write(b"string content"),
         call::SPAN => write(b"text of a span"),
         call::FORCE => write(b"tag in force"),
+        call::SINGLE_EXACT => write(b"single expression, exact"),
         _ => {
             write(b"call ");
             io::print_decimal(1, call as u64);

@@ -5,7 +5,7 @@ use mathlib.Core.List.{List, [], _∷_}
 use Rattle.decimal.specs.declared.Value.{Value}
 use Rattle.text.specs.Answer.{Ans, To, Miss, Hard, _and_, must}
 use Rattle.text.specs.Leaves.{currency}
-use Rattle.amount.specs.Expression.{negatedValue, isPlus, isTimes, atom, products, closed}
+use Rattle.amount.specs.Expression.{Arithmetic, negatedValue, isPlus, isTimes, atom, products, closed}
 use Rattle.amount.specs.Details.{Rows, zeroValue, span, valued}
 use Rattle.amount.specs.Amounts.{hardGap, hardAmount}
 use Rattle.amount.specs.declared.amounts.Priced.{Priced}
@@ -35,9 +35,9 @@ unfoldable pub operatorOf : Bool → ℕ → Bool
 operatorOf true = isTimes
 operatorOf false = isPlus
 
-unfoldable pub operandOf : Bool → (ℕ → Ans Value) → List ℕ → ℕ → Ans Value
-operandOf true = atom
-operandOf false = products
+unfoldable pub operandOf : Bool → Arithmetic → (ℕ → Ans Value) → List ℕ → ℕ → Ans Value
+operandOf true calc = atom
+operandOf false calc = products calc
 
 -- an expression's answer, negated
 unfoldable pub negatedAnswer : Answer → Answer

@@ -3,8 +3,8 @@ use borrow.Author.Needs.{needs}
 use Rattle.access.proofs.single.read_first.Statement.{statement}
 use Rattle.access.proofs.single.read_first.Tie as tie
 
-expression-at-requires : tie.Need-expression-at-requires
-expression-at-requires c κs = search (needs, single-laws)
+expression-in-requires : tie.Need-expression-in-requires
+expression-in-requires c κs = search (needs, single-laws)
 
 enum-known-a : tie.Need-enum-known-a
 enum-known-a c = search (needs, single-laws)
@@ -31,7 +31,7 @@ pub read-first-spec : {M : Type 1} → statement M
 read-first-spec =
     tie.close
     (tie.spec
-    expression-at-requires
+    expression-in-requires
     enum-known-a
     valued-requires
     enum-told

@@ -1,6 +1,6 @@
 use Prim.Native.Nat.{_+_, _*_}
 use mathlib.Core.Path.{_≡_}
-use Rattle.amount.specs.Expression.{isPlus, isTimes, goesOn, chain, atom, products, sums, inGroup, group, within}
+use Rattle.amount.specs.Expression.{combined, isPlus, isTimes, goesOn, chain, atom, products, sums, inGroup, group, within}
 use Rattle.amount.specs.steps.Answers.{operatorOf, operandOf}
 use Rattle.amount.proofs.Forms.{stage, sum-stage, form-laws, operand-laws, goes-laws}
 use borrow.Author.Needs.{needs}
@@ -188,11 +188,11 @@ unfolding atom
 atom-at-returns-3 t c = search (needs, form-laws)
 
 abbrev chain-from-Inv-loop : chain-from-lts.InvT-loop
-chain-from-Inv-loop s from left times end₀ value₀ turns₀ end value turns =
-    goesOn (operatorOf times) (operandOf times (group left s) s) s turns value end ≡ goesOn (operatorOf times) (operandOf times (group left s) s) s turns₀ value₀ end₀
+chain-from-Inv-loop s from left times form end₀ value₀ turns₀ end value turns =
+    goesOn (combined form) (operatorOf times) (operandOf times (combined form) (group (combined form) left s) s) s turns value end ≡ goesOn (combined form) (operatorOf times) (operandOf times (combined form) (group (combined form) left s) s) s turns₀ value₀ end₀
 
 abbrev chain-from-μ-loop : chain-from-lts.MeasureT-loop
-chain-from-μ-loop s from left times end₀ value₀ turns₀ end value turns = turns
+chain-from-μ-loop s from left times form end₀ value₀ turns₀ end value turns = turns
 
 chain-from-loop-holds : (t : ℕ) → chain-from-lts.Need-loop-holds (chain-from-calls t) (chain-from-at t) chain-from.Post chain-from-Inv-loop chain-from-μ-loop
 chain-from-loop-holds t c = search needs

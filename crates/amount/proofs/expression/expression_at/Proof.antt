@@ -1,5 +1,5 @@
 use Rattle.amount.proofs.LoneLiteral.{lone-laws}
-use Rattle.amount.specs.Expression.{expression}
+use Rattle.amount.specs.Expression.{expressionIn, expression}
 use borrow.Author.Needs.{needs}
 use Rattle.amount.proofs.expression.expression_at.Statement.{statement}
 use Rattle.amount.proofs.expression.expression_at.Tie as tie
@@ -26,19 +26,19 @@ enum-known-number-2 : tie.Need-enum-known-number-2
 enum-known-number-2 c = search (needs, lone-laws)
 
 returns : tie.Need-returns
-unfolding expression
+unfolding expression expressionIn
 returns c = search (needs, lone-laws)
 
 returns-2 : tie.Need-returns-2
-unfolding expression
+unfolding expression expressionIn
 returns-2 c = search (needs, lone-laws)
 
 returns-3 : tie.Need-returns-3
-unfolding expression
+unfolding expression expressionIn
 returns-3 c = search (needs, lone-laws)
 
 returns-4 : tie.Need-returns-4
-unfolding expression
+unfolding expression expressionIn
 returns-4 c = search (needs, lone-laws)
 
 pub expression-at-spec : {M : Type 1} → statement M

@@ -39,6 +39,12 @@ lumbrisse-tag-in-force-requires c κs = search (needs, made-laws)
 of-reply-requires-4 : tie.Need-of-reply-requires-4
 of-reply-requires-4 c κs = search (needs, made-laws)
 
+lumbrisse-expression-exact-requires : tie.Need-lumbrisse-expression-exact-requires
+lumbrisse-expression-exact-requires c κs = search (needs, made-laws)
+
+of-evaluated-requires-2 : tie.Need-of-evaluated-requires-2
+of-evaluated-requires-2 c κs = search (needs, made-laws)
+
 same-length : tie.Need-same-length
 same-length c = search (needs, made-laws)
 
@@ -72,6 +78,9 @@ returns-6 c = search (needs, made-laws)
 returns-7 : tie.Need-returns-7
 returns-7 c = search (needs, made-laws)
 
+returns-8 : tie.Need-returns-8
+returns-8 c = search (needs, made-laws)
+
 pub made-spec : {M : Type 1} → statement M
 made-spec =
     tie.close
@@ -88,6 +97,8 @@ made-spec =
     of-part-requires
     lumbrisse-tag-in-force-requires
     of-reply-requires-4
+    lumbrisse-expression-exact-requires
+    of-evaluated-requires-2
     same-length
     returns
     same-length-2
@@ -98,4 +109,5 @@ made-spec =
     returns-5
     same-length-4
     returns-6
-    returns-7)
+    returns-7
+    returns-8)
