@@ -72,7 +72,8 @@ install_cross() {
     step "installing $packages" env DEBIAN_FRONTEND=noninteractive apt-get install -y $packages
 }
 
-# On this processor: what a built program is run by, where cargo puts it, cargo itself, and whether that is there.
+# On this processor: what a built program is run by, where cargo puts it, whether cargo is there, cargo itself, and
+# cargo with one of its tools (fmt, clippy).
 # shellcheck disable=SC2034
 case $(uname -m) in
 x86_64)
@@ -80,6 +81,7 @@ x86_64)
     release=$root/rust/target/release
     need_cargo() { command -v cargo >/dev/null 2>&1 || fail "Rust is missing: there is no cargo on the path"; }
     cargo_x86() { cargo "$@"; }
+    cargo_tool() { cargo "$@"; }
     ;;
 *)
     emulator=/usr/bin/qemu-x86_64
@@ -89,6 +91,17 @@ x86_64)
         env PATH=/usr/bin:/bin RUSTC=/usr/bin/rustc CARGO_BUILD_TARGET="$target" \
             CARGO_TARGET_X86_64_UNKNOWN_LINUX_GNU_LINKER=x86_64-linux-gnu-gcc \
             CARGO_TARGET_X86_64_UNKNOWN_LINUX_GNU_RUNNER="$emulator" cargo "$@"
+    }
+    # The tools are those of this machine's own cargo, as Debian's need not have them. Clippy then compiles for this
+    # processor, for which the archive has no code: nothing is linked, so the script that looks for it is left out.
+    cargo_tool() {
+        tool=$1
+        shift
+        if [ "$tool" = clippy ]; then
+            own=$(rustc -vV | sed -n 's/^host: //p')
+            set -- --config "target.$own.lumbrisse.rustc-link-search=[]" "$@"
+        fi
+        cargo "$tool" "$@"
     }
     ;;
 esac

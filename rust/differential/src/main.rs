@@ -1,4 +1,4 @@
-//! Compares the reader with the crate that it replaces, beancount-parser 2.6.0, inside the domain that document 01 names.
+//! Compares the reader with the crate that it replaces, beancount-parser 2.6.0, inside the domain of documents 01 and 02.
 //!
 //! ```text
 //! differential --oracle DIR [--count N] [--seed S] [--real FILE].. [--smallest N] [--sample FILE]

@@ -1,12 +1,15 @@
 //! The reader's answer beside the oracle's.
 
-use lumbrisse::Refusal;
+use lumbrisse::{Kind, Refusal, Row, Rows};
 
 use crate::oracle::{Answer, End};
 use crate::shown::shown;
 
 /// A literal of more digits lies outside the domain.
 const DIGITS: usize = 28;
+
+/// The crate's decimals round elsewhere, so that a ledger lies outside the domain where the reader rounds.
+const ROUNDS: &str = "a value that is rounded";
 
 /// How the two answers to a ledger compare.
 #[derive(Clone, Debug, PartialEq, Eq)]
@@ -54,12 +57,12 @@ pub fn verdict(ledger: &[u8], answer: &Answer) -> Verdict {
     }
 }
 
-/// Why a ledger lies outside the domain, in document 01's words.
+/// Why a ledger lies outside the domain, in the words of document 01 and, for rounding, of document 02.
 fn outside(ledger: &[u8], read: &Result<Vec<u8>, Refusal>, answer: &Answer) -> Option<String> {
-    if let Err(refusal) = read {
-        if refusal.number != 4 {
-            return Some(format!("refusal {}", refusal.number));
-        }
+    match read {
+        Err(refusal) if refusal.number != 4 => return Some(format!("refusal {}", refusal.number)),
+        Ok(table) if rounds(ledger, table) => return Some(ROUNDS.to_owned()),
+        _ => {}
     }
     if has_long_literal(ledger) {
         return Some(format!("a literal of more than {DIGITS} digits"));
@@ -69,6 +72,27 @@ fn outside(ledger: &[u8], read: &Result<Vec<u8>, Refusal>, answer: &Answer) -> O
         (_, Some(End::Panic(message))) => Some(format!(
             "behind a date that is none, the crate's copy panics: {message}"
         )),
+        _ => None,
+    }
+}
+
+/// Whether a row has a value that the exact form refuses as too fine or, at the limit, as too large.
+fn rounds(ledger: &[u8], table: &[u8]) -> bool {
+    Rows::new(table)
+        .filter_map(|row| expression_of(&row, ledger))
+        .any(|text| {
+            let exact = lumbrisse::expression_exact(text);
+            exact.is_err_and(|refusal| matches!(refusal.number, 6 | 7))
+        })
+}
+
+/// The expression of a row that has a value.
+fn expression_of<'a>(row: &Row, ledger: &'a [u8]) -> Option<&'a [u8]> {
+    match row.kind {
+        Kind::Amount | Kind::Tolerance | Kind::UnitPrice | Kind::TotalPrice => {
+            Some(row.text(ledger))
+        }
+        Kind::MetadataNumber => row.metadata(ledger),
         _ => None,
     }
 }
@@ -122,7 +146,43 @@ fn first_difference(reader: &str, oracle: &str) -> String {
 
 #[cfg(test)]
 mod tests {
-    use super::{has_long_literal, has_only_the_shape};
+    use super::{has_long_literal, has_only_the_shape, rounds};
+    use crate::grammar;
+    use crate::random::Random;
+
+    /// Whether an accepted ledger rounds.
+    fn rounding(ledger: &[u8]) -> Option<bool> {
+        let table = lumbrisse::read_to_vec(ledger).ok()?;
+        Some(rounds(ledger, &table))
+    }
+
+    #[test]
+    fn a_value_of_any_row_may_round() {
+        for form in [
+            "2024-01-31 price A $ B",
+            "2024-01-31 balance A:B 1 ~ $ B",
+            "2024-01-31 *\n A:B $ B",
+            "2024-01-31 *\n A:B 1 B {$ C}",
+            "2024-01-31 *\n A:B 1 B @ $ C",
+            "2024-01-31 *\n A:B 1 B @@ $ C",
+            "2024-01-31 *\n k: $",
+        ] {
+            let with = |value| rounding(form.replace('$', value).as_bytes());
+            assert_eq!(with("1/3"), Some(true), "{form}");
+            assert_eq!(with("(1/3)*3"), Some(true), "{form}");
+            assert_eq!(with("999999000.000999*1.000001"), Some(true), "{form}");
+            assert_eq!(with("1/4"), Some(false), "{form}");
+        }
+    }
+
+    #[test]
+    fn ledgers_of_the_grammar_round_now_and_then() {
+        let ledgers = (0..2000).map(|index| grammar::ledger(&mut Random::of(1, index)).0);
+        let count = ledgers
+            .filter(|ledger| rounding(ledger) == Some(true))
+            .count();
+        assert!(count >= 10, "{count}");
+    }
 
     #[test]
     fn a_date_has_more_than_the_shape() {

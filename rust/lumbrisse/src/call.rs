@@ -39,10 +39,24 @@ fn counted(reply: ffi::Reply) -> Result<usize, Refusal> {
     }
 }
 
+fn evaluated(reply: ffi::Evaluated) -> Result<Evaluated, Refusal> {
+    match reply.number {
+        0 => Ok(Evaluated {
+            value: i64::from_ne_bytes(reply.bits.to_ne_bytes()),
+            stop: reply.place,
+        }),
+        number => Err(Refusal {
+            number,
+            place: reply.place,
+            count: 0,
+        }),
+    }
+}
+
 /// Plain reading: writes the ledger's rows to the front of the table and gives their number.
 ///
-/// Bytes of the table past the last row keep their content, and all of them do after a refusal: 1 to 8, or 9 with the need in
-/// rows.
+/// Values are those of [`expression`]: products and quotients round. Bytes of the table past the last row keep their
+/// content, and all of them do after a refusal: 1 to 8, or 9 with the need in rows.
 ///
 /// ```
 /// let ledger = b"2024-01-31 * \"January\"\n";
@@ -80,26 +94,32 @@ pub fn recover(ledger: &[u8], table: &mut [u8]) -> Result<usize, Refusal> {
 
 /// The expression at the start of a text: its value, and where it stops.
 ///
-/// Refused with 1, 2, 3, 11, or 6 to 8.
+/// Each product and each quotient goes to the nearest millionth, ties to the even one, and its size is judged after
+/// that; sums are exact. Refused with 1, 2, 3, 11, or 6 to 8, of which 7 is only for a number that is written too fine.
 ///
 /// ```
 /// let found = lumbrisse::expression(b"(1,204.5 - 1200)/2 KWH")?;
 /// assert_eq!((found.value, found.stop), (2_250_000, 18));
+/// assert_eq!(lumbrisse::expression(b"100/3")?.value, 33_333_333);
+/// assert_eq!(lumbrisse::expression(b"0.0000001").unwrap_err().number, 7);
 /// # Ok::<(), lumbrisse::Refusal>(())
 /// ```
 pub fn expression(text: &[u8]) -> Result<Evaluated, Refusal> {
-    let reply = ffi::expression(text);
-    match reply.number {
-        0 => Ok(Evaluated {
-            value: i64::from_ne_bytes(reply.bits.to_ne_bytes()),
-            stop: reply.place,
-        }),
-        number => Err(Refusal {
-            number,
-            place: reply.place,
-            count: 0,
-        }),
-    }
+    evaluated(ffi::expression(text))
+}
+
+/// The expression at the start of a text, in the exact form: nothing rounds.
+///
+/// Refused as [`expression`] is, and with 7 also where a product or quotient is not a whole number of millionths; the
+/// exact size is judged before that. A value that it gives is the one that [`expression`] gives; what only
+/// [`expression`] gives a value for was rounded.
+///
+/// ```
+/// assert_eq!(lumbrisse::expression_exact(b"100/8"), lumbrisse::expression(b"100/8"));
+/// assert_eq!(lumbrisse::expression_exact(b"100/3").unwrap_err().number, 7);
+/// ```
+pub fn expression_exact(text: &[u8]) -> Result<Evaluated, Refusal> {
+    evaluated(ffi::expression_exact(text))
 }
 
 /// String content without its escapes: writes it to the front of the buffer and gives its length.

@@ -1,4 +1,4 @@
-//! The archive's six functions, and the only unsafe code: each is called with the pointer and length of a live slice.
+//! The archive's seven functions, and the only unsafe code: each is called with the pointer and length of a live slice.
 #![allow(unsafe_code)]
 
 /// The answer of a call that reads or writes: number 0 is accepted.
@@ -46,6 +46,7 @@ mod archive {
             table_length: usize,
         ) -> Reply;
         pub fn lumbrisse_expression(text: *const u8, text_length: usize) -> Evaluated;
+        pub fn lumbrisse_expression_exact(text: *const u8, text_length: usize) -> Evaluated;
         pub fn lumbrisse_content(
             content: *const u8,
             content_length: usize,
@@ -98,6 +99,11 @@ pub fn recover(ledger: &[u8], table: &mut [u8]) -> Reply {
 pub fn expression(text: &[u8]) -> Evaluated {
     // SAFETY: the slice lives through the call. The function is proved for any bytes: it reads within `text` and keeps no pointer.
     unsafe { archive::lumbrisse_expression(text.as_ptr(), text.len()) }
+}
+
+pub fn expression_exact(text: &[u8]) -> Evaluated {
+    // SAFETY: as for `expression`.
+    unsafe { archive::lumbrisse_expression_exact(text.as_ptr(), text.len()) }
 }
 
 pub fn content(content: &[u8], buffer: &mut [u8]) -> Reply {

@@ -8,7 +8,8 @@
 //! |---|---|
 //! | [`read`] | the rows of a ledger, or the first refusal in it |
 //! | [`recover`] | the rows of every block that reads, and a row of kind [`Kind::Refused`] for each block that does not |
-//! | [`expression`] | the value of one expression, and where it stops |
+//! | [`expression`] | the value of one expression, with products and quotients rounded, and where it stops |
+//! | [`expression_exact`] | the same with nothing rounded: a product or quotient that is too fine is refused |
 //! | [`content`] | string content without its escapes |
 //! | [`tag_in_force`] | whether a tag is in force after some rows |
 //! | [`span_text`] | the text of a span: a part of the ledger itself |
@@ -49,8 +50,8 @@ mod row;
 mod table;
 
 pub use call::{
-    content, expression, read, read_to_vec, recover, recover_to_vec, span_text, tag_in_force,
-    Evaluated, SIZE_LIMIT,
+    content, expression, expression_exact, read, read_to_vec, recover, recover_to_vec, span_text,
+    tag_in_force, Evaluated, SIZE_LIMIT,
 };
 pub use date::Date;
 pub use kind::Kind;

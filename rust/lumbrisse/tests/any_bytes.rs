@@ -1,62 +1,55 @@
 //! Any bytes at all get rows or a numbered refusal: texts made up at random, on the real archive.
 
+mod dice;
+
+use dice::Dice;
 use lumbrisse::{
-    content, expression, read, recover, span_text, tag_in_force, Refusal, Rows, ROW_BYTES,
+    content, expression, expression_exact, read, recover, span_text, tag_in_force, Refusal, Rows,
+    ROW_BYTES,
 };
 
-/// A small generator of numbers, so that a failure can be had again.
-struct Dice(u64);
+/// What ledgers are made of, and bytes that they are not.
+const PIECES: [&[u8]; 32] = [
+    b"2024-01-31 ",
+    b"*",
+    b"!",
+    b"txn",
+    b"\n",
+    b"\r\n",
+    b"\r",
+    b" ",
+    b"  ",
+    b"\t",
+    b"\"",
+    b"\\\"",
+    b"A:B",
+    b"Cash",
+    b"1,204.5",
+    b"-",
+    b"(",
+    b")",
+    b"/",
+    b"0",
+    b"KWH",
+    b"{",
+    b"}",
+    b"@",
+    b"#tag",
+    b"^link",
+    b"key: ",
+    b"pushtag ",
+    b"balance ",
+    b"option ",
+    b"; note\n",
+    b"\xff",
+];
 
-impl Dice {
-    fn below(&mut self, limit: usize) -> usize {
-        self.0 ^= self.0 << 13;
-        self.0 ^= self.0 >> 7;
-        self.0 ^= self.0 << 17;
-        (self.0 % limit as u64) as usize
-    }
-
-    /// A text of pieces that ledgers are made of, and of bytes that they are not.
-    fn text(&mut self) -> Vec<u8> {
-        let pieces: [&[u8]; 32] = [
-            b"2024-01-31 ",
-            b"*",
-            b"!",
-            b"txn",
-            b"\n",
-            b"\r\n",
-            b"\r",
-            b" ",
-            b"  ",
-            b"\t",
-            b"\"",
-            b"\\\"",
-            b"A:B",
-            b"Cash",
-            b"1,204.5",
-            b"-",
-            b"(",
-            b")",
-            b"/",
-            b"0",
-            b"KWH",
-            b"{",
-            b"}",
-            b"@",
-            b"#tag",
-            b"^link",
-            b"key: ",
-            b"pushtag ",
-            b"balance ",
-            b"option ",
-            b"; note\n",
-            b"\xff",
-        ];
-        let mut text = Vec::new();
-        for _ in 0..self.below(30) {
-            text.extend_from_slice(pieces[self.below(pieces.len())]);
-        }
-        text
-    }
+fn text(dice: &mut Dice) -> Vec<u8> {
+    let count = dice.below(30);
+    (0..count)
+        .flat_map(|_| dice.pick(&PIECES))
+        .copied()
+        .collect()
 }
 
 fn sound(refusal: Refusal, text: &[u8]) {
@@ -69,7 +62,7 @@ fn sound(refusal: Refusal, text: &[u8]) {
 fn any_bytes_get_rows_or_a_refusal() {
     let mut dice = Dice(0x9E37_79B9_7F4A_7C15);
     for _ in 0..20_000 {
-        let text = dice.text();
+        let text = text(&mut dice);
         let lent: Vec<u8> = (0..dice.below(40 * ROW_BYTES)).map(|n| n as u8).collect();
         for call in [read, recover] {
             let mut table = lent.clone();
@@ -85,9 +78,11 @@ fn any_bytes_get_rows_or_a_refusal() {
                 }
             }
         }
-        match expression(&text) {
-            Err(refusal) => sound(refusal, &text),
-            Ok(found) => assert!(found.stop <= text.len()),
+        for form in [expression, expression_exact] {
+            match form(&text) {
+                Err(refusal) => sound(refusal, &text),
+                Ok(found) => assert!(found.stop <= text.len()),
+            }
         }
         let mut buffer = lent.clone();
         match content(&text, &mut buffer) {

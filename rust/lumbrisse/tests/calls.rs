@@ -1,8 +1,8 @@
-//! The six calls on the real archive: 01's own listing and edges, every refusal, and every lent byte afterwards.
+//! The seven calls on the real archive: 01's own listing and edges, every refusal, and every lent byte afterwards.
 
 use lumbrisse::{
-    content, expression, read, read_to_vec, recover, span_text, tag_in_force, Kind, Refusal, Row,
-    Rows, ROW_BYTES, SIZE_LIMIT,
+    content, expression, expression_exact, read, read_to_vec, recover, recover_to_vec, span_text,
+    tag_in_force, Evaluated, Kind, Refusal, Row, Rows, ROW_BYTES, SIZE_LIMIT,
 };
 
 /// What a lent byte holds before a call.
@@ -10,6 +10,10 @@ const MARK: u8 = 0xA5;
 
 const LISTED: &[u8] =
     b"2024-01-31 * \"Jan\" #m\n  E:Cell  12.5 KWH {2 EUR}\n  G:Import\n; end\noption \"a\" \"b\"\n";
+
+/// A form of a single expression. The two differ only in what they make of products and quotients.
+type Form = fn(&[u8]) -> Result<Evaluated, Refusal>;
+const FORMS: [Form; 2] = [expression, expression_exact];
 
 fn refusal(number: usize, place: usize) -> Refusal {
     Refusal {
@@ -38,6 +42,10 @@ fn reading(ledger: &[u8]) -> Result<Vec<Row>, Refusal> {
 
 fn kinds(ledger: &[u8]) -> Result<Vec<u32>, Refusal> {
     reading(ledger).map(|rows| rows.iter().map(|row| row.kind.number()).collect())
+}
+
+fn priced(value: &str) -> Vec<u8> {
+    format!("2024-01-31 price KWH {value} EUR\n").into_bytes()
 }
 
 fn groups(depth: usize) -> Vec<u8> {
@@ -112,7 +120,9 @@ fn refusal_1_is_for_size() {
     let long = vec![b'\n'; SIZE_LIMIT + 1];
     assert_eq!(read(&long, &mut []), Err(refusal(1, 0)));
     assert_eq!(recover(&long, &mut []), Err(refusal(1, 0)));
-    assert_eq!(expression(&long), Err(refusal(1, 0)));
+    for form in FORMS {
+        assert_eq!(form(&long), Err(refusal(1, 0)));
+    }
 }
 
 #[test]
@@ -120,13 +130,17 @@ fn refusal_2_is_for_the_first_byte_that_is_not_permitted() {
     assert_eq!(reading(b"; a\n\0\xff\n"), Err(refusal(2, 4)));
     assert_eq!(kinds(b"; a\r\n"), Ok(vec![1]));
     assert_eq!(reading(b"; a\r"), Err(refusal(2, 3)));
-    assert_eq!(expression(b"1 \0"), Err(refusal(2, 2)));
+    for form in FORMS {
+        assert_eq!(form(b"1 \0"), Err(refusal(2, 2)));
+    }
 }
 
 #[test]
 fn refusal_3_is_for_groups_too_deep() {
-    assert_eq!(expression(&groups(32)).map(|found| found.stop), Ok(65));
-    assert_eq!(expression(&groups(33)), Err(refusal(3, 32)));
+    for form in FORMS {
+        assert_eq!(form(&groups(32)).map(|found| found.stop), Ok(65));
+        assert_eq!(form(&groups(33)), Err(refusal(3, 32)));
+    }
     let price = [b"2024-01-31 price KWH ", &groups(33)[..], b" EUR\n"].concat();
     assert_eq!(reading(&price), Err(refusal(3, 21 + 32)));
 }
@@ -151,19 +165,75 @@ fn refusal_5_is_for_a_last_line_without_line_feed() {
 
 #[test]
 fn refusals_6_to_8_are_for_values() {
-    let priced = |value: &str| reading(format!("2024-01-31 price KWH {value} EUR\n").as_bytes());
-    for (value, number) in [("9999999999", 6), ("1/3", 7), ("1/0", 8)] {
-        assert_eq!(priced(value), Err(refusal(number, 21)));
-        assert_eq!(expression(value.as_bytes()), Err(refusal(number, 0)));
+    for (value, number) in [
+        ("9999999999", 6),
+        ("999999999.9999991", 6),
+        // 999,999,999.9999995 and 999,999,999.99999999 go to 10^9.
+        ("917431192.66055*1.09", 6),
+        ("999990000.099999*1.00001", 6),
+        ("1.0000001", 7),
+        ("2*0.0000005", 7),
+        ("1/0", 8),
+        ("1/(1-1)", 8),
+    ] {
+        assert_eq!(reading(&priced(value)), Err(refusal(number, 21)), "{value}");
+        for form in FORMS {
+            assert_eq!(form(value.as_bytes()), Err(refusal(number, 0)), "{value}");
+        }
     }
-    assert_eq!(
-        priced("999999999.999999").map(|rows| rows[2].value),
-        Ok(999_999_999_999_999)
-    );
-    assert_eq!(
-        expression(b"-999999999.999999").map(|found| found.value),
-        Ok(-999_999_999_999_999)
-    );
+    let largest = 999_999_999_999_999;
+    for (value, millionths) in [
+        ("999999999.999999", largest),
+        ("-999999999.999999", -largest),
+        ("999999999.999999*1.000000", largest),
+        ("0.0000010", 1),
+    ] {
+        let rows = reading(&priced(value)).unwrap();
+        assert_eq!(rows[2].value, millionths, "{value}");
+        for form in FORMS {
+            let found = form(value.as_bytes()).map(|found| found.value);
+            assert_eq!(found, Ok(millionths), "{value}");
+        }
+    }
+}
+
+#[test]
+fn products_and_quotients_round_unless_they_must_be_exact() {
+    for (text, value, number) in [
+        ("100/3", 33_333_333, 7),
+        ("2/3", 666_667, 7),
+        ("-1/3", -333_333, 7),
+        // Ties go to the even one.
+        ("0.000001/2", 0, 7),
+        ("0.000003/2", 2, 7),
+        ("0.000001*0.5", 0, 7),
+        ("-0.000001/2", 0, 7),
+        ("-0.000003/2", -2, 7),
+        // Each operation rounds.
+        ("1/3*3", 999_999, 7),
+        ("1/3+2/3", 1_000_000, 7),
+        // This is 999,999,999.999999000999, which is over the limit until it is rounded.
+        ("999999000.000999*1.000001", 999_999_999_999_999, 6),
+    ] {
+        let stop = text.len();
+        assert_eq!(
+            expression(text.as_bytes()),
+            Ok(Evaluated { value, stop }),
+            "{text}"
+        );
+        let exact = expression_exact(text.as_bytes());
+        assert_eq!(exact, Err(refusal(number, 0)), "{text}");
+        for call in [read_to_vec, recover_to_vec] {
+            let table = call(&priced(text)).unwrap();
+            let found = Rows::new(&table).nth(2).map(|row| row.value);
+            assert_eq!(found, Some(value), "{text}");
+        }
+    }
+    // A divisor that rounding makes zero, and one that is zero behind a quotient that rounds.
+    for text in [&b"1/(0.000001/3)"[..], b"1/3/0"] {
+        assert_eq!(expression(text), Err(refusal(8, 0)));
+        assert_eq!(expression_exact(text), Err(refusal(7, 0)));
+    }
 }
 
 #[test]
@@ -211,7 +281,9 @@ fn refusal_10_is_for_bad_content_and_bad_row_numbers() {
 #[test]
 fn refusal_11_is_for_no_expression() {
     for none in [&b""[..], b"KWH", b"\t5", b" (5)", b"1.2.3", b"."] {
-        assert_eq!(expression(none), Err(refusal(11, 0)));
+        for form in FORMS {
+            assert_eq!(form(none), Err(refusal(11, 0)));
+        }
     }
 }
 
@@ -228,11 +300,15 @@ fn both_sides_of_each_edge() {
         (" 5", whole(5), 2),
     ];
     for (text, value, stop) in edges {
-        let found = expression(text.as_bytes()).map(|found| (found.value, found.stop));
-        assert_eq!(found, Ok((value, stop)), "{text}");
+        for form in FORMS {
+            let found = form(text.as_bytes());
+            assert_eq!(found, Ok(Evaluated { value, stop }), "{text}");
+        }
     }
     for (text, number) in [("0.0000001", 7), ("999999999.999999*1.000001", 6)] {
-        assert_eq!(expression(text.as_bytes()), Err(refusal(number, 0)));
+        for form in FORMS {
+            assert_eq!(form(text.as_bytes()), Err(refusal(number, 0)));
+        }
     }
     let posted = |cost: &str| {
         let ledger = format!("2024-01-31 *\n  A:B 1 KWH {cost}\n");

@@ -2,11 +2,25 @@
 //!
 //! The file is `crates/replay/stdin`; `LUMBRISSE_CASES` names another.
 
+use std::collections::BTreeMap;
 use std::env;
 use std::fs;
 use std::path::PathBuf;
 
-use lumbrisse::{content, expression, read, recover, span_text, tag_in_force, Refusal};
+use lumbrisse::{
+    content, expression, expression_exact, read, recover, span_text, tag_in_force, Evaluated,
+    Refusal,
+};
+
+/// Where another case file is named.
+const NAMED: &str = "LUMBRISSE_CASES";
+
+/// The repository's own file, and how many cases it has: the model's, then those that a differential run has written.
+const OWN: &str = concat!(env!("CARGO_MANIFEST_DIR"), "/../../crates/replay/stdin");
+const OWN_CASES: usize = 700 + 287;
+
+/// The numbers of the calls that this test makes.
+const CALLS: [usize; 7] = [1, 2, 3, 4, 5, 6, 9];
 
 /// The bytes of a case that are left.
 struct Left<'a>(&'a [u8]);
@@ -60,6 +74,10 @@ fn counted(reply: Result<usize, Refusal>) -> Answer {
     reply.map_or_else(refused, |count| answer(0, count, 0))
 }
 
+fn evaluated(reply: Result<Evaluated, Refusal>) -> Answer {
+    reply.map_or_else(refused, |found| answer(found.stop, 0, found.value))
+}
+
 /// A case: the call with what it takes, then what it must answer and leave in the buffer.
 struct Case<'a> {
     call: usize,
@@ -99,10 +117,7 @@ fn called(case: &Case, buffer: &mut [u8]) -> Answer {
     match case.call {
         1 => counted(read(case.first, buffer)),
         2 => counted(recover(case.first, buffer)),
-        3 => match expression(case.first) {
-            Ok(found) => answer(found.stop, 0, found.value),
-            Err(refusal) => refused(refusal),
-        },
+        3 => evaluated(expression(case.first)),
         4 => counted(content(case.first, buffer)),
         5 => {
             let text = span_text(case.first, a, b);
@@ -111,33 +126,30 @@ fn called(case: &Case, buffer: &mut [u8]) -> Answer {
             answer(start, text.len(), 0)
         }
         6 => counted(tag_in_force(case.first, buffer, a, case.second).map(usize::from)),
+        9 => evaluated(expression_exact(case.first)),
         call => panic!("the case file has a call {call}"),
     }
 }
 
 #[test]
 fn every_case_is_answered_as_it_must_be() {
-    let file = env::var_os("LUMBRISSE_CASES").map_or_else(
-        || {
-            PathBuf::from(concat!(
-                env!("CARGO_MANIFEST_DIR"),
-                "/../../crates/replay/stdin"
-            ))
-        },
-        PathBuf::from,
-    );
+    let named = env::var_os(NAMED);
+    let file = PathBuf::from(named.clone().unwrap_or(OWN.into()));
     let bytes = fs::read(&file).unwrap_or_else(|error| panic!("{}: {error}", file.display()));
     let mut left = Left(&bytes);
-    let mut calls = [0; 7];
+    let mut calls = BTreeMap::new();
     while !left.0.is_empty() {
         let case = next(&mut left);
         let mut buffer = case.before.to_vec();
         let found = called(&case, &mut buffer);
-        calls[case.call] += 1;
+        *calls.entry(case.call).or_insert(0) += 1;
         let text = String::from_utf8_lossy(case.first);
         assert_eq!(found, case.answer, "call {} on {text:?}", case.call);
         assert_eq!(buffer, case.after, "call {} on {text:?}", case.call);
     }
-    assert!(calls.iter().skip(1).all(|count| *count > 0), "{calls:?}");
-    println!("cases of each call: {:?}", &calls[1..]);
+    println!("cases of each call: {calls:?}");
+    assert!(calls.keys().eq(&CALLS));
+    if named.is_none() {
+        assert_eq!(calls.values().sum::<usize>(), OWN_CASES);
+    }
 }

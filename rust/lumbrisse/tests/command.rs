@@ -173,12 +173,67 @@ fn expressions_are_evaluated() {
     assert_eq!((status, out.as_str(), err.as_str()), (0, "3\n", ""));
 
     let Ran { status, out, .. } = run(&["eval", "--json", "1/8 KWH"]);
-    let object = "{\"file\":\"<expression>\",\"accepted\":true,\"expression\":\"1/8 KWH\",\"value\":\"0.125\",\"millionths\":125000,\"stop\":3}\n";
+    let object = "{\"file\":\"<expression>\",\"accepted\":true,\"expression\":\"1/8 KWH\",\"value\":\"0.125\",\"millionths\":125000,\"rounded\":false,\"stop\":3}\n";
     assert_eq!((status, out.as_str()), (0, object));
 
-    let Ran { status, out, err } = run(&["eval", "1/3"]);
+    let Ran { status, out, err } = run(&["eval", "1/0"]);
     assert_eq!((status, out.as_str()), (1, ""));
-    assert!(err.starts_with("<expression>:1:1: refusal 7: "), "{err}");
+    assert!(err.starts_with("<expression>:1:1: refusal 8: "), "{err}");
+}
+
+#[test]
+fn rounding_is_said() {
+    for (text, line) in [
+        ("100/3", "33.333333 (rounded from 33.333333333..)\n"),
+        ("-2/3", "-0.666667 (rounded from -0.666666666..)\n"),
+        ("0.000001/2", "0 (rounded from 0.0000005)\n"),
+        // Each operation rounds.
+        ("1/3*3", "0.999999 (rounded from 1)\n"),
+        ("1/3 + 2/3", "1 (rounded on the way)\n"),
+        // Exactly, this divides by zero.
+        ("1/(1/3*3 - 1)", "-1000000 (rounded)\n"),
+        (
+            "999999000.000999*1.000001",
+            "999999999.999999 (rounded from 999999999.999999000999)\n",
+        ),
+    ] {
+        let Ran { status, out, err } = run(&["eval", text]);
+        assert_eq!((status, out.as_str(), err.as_str()), (0, line, ""));
+    }
+    let Ran { status, out, err } = run(&["eval", "100/3 EUR"]);
+    assert_eq!(
+        (status, out.as_str(), err.as_str()),
+        (
+            0,
+            "33.333333 (rounded from 33.333333333..)\n",
+            "stops at byte 5; not read: EUR\n"
+        )
+    );
+    let Ran { status, out, .. } = run(&["eval", "--json", "2/3"]);
+    assert_eq!(status, 0);
+    let end = "\"value\":\"0.666667\",\"millionths\":666667,\"rounded\":true,\"stop\":3}\n";
+    assert!(out.ends_with(end), "{out}");
+}
+
+#[test]
+fn an_exact_value_is_not_rounded() {
+    let Ran { status, out, err } = run(&["eval", "--exact", "100/8"]);
+    assert_eq!((status, out.as_str(), err.as_str()), (0, "12.5\n", ""));
+
+    let Ran { status, out, err } = run(&["eval", "--exact", "100/3"]);
+    assert_eq!((status, out.as_str()), (1, ""));
+    assert_eq!(
+        err,
+        "<expression>:1:1: refusal 7: a value is not a whole number of millionths\n    \
+         1 | 100/3\n      \
+         | ^\n"
+    );
+    let Ran { status, out, err } = run(&["eval", "100/3", "--json", "--exact"]);
+    assert_eq!((status, err.as_str()), (1, ""));
+    assert!(
+        out.contains("\"accepted\":false,\"refusal\":{\"number\":7,"),
+        "{out}"
+    );
 }
 
 #[test]
@@ -192,7 +247,7 @@ fn every_refusal_of_a_ledger_is_shown() {
             "<stdin>:1:22: refusal 6: ",
         ),
         (
-            b"2024-01-31 price KWH 1/3 EUR\n",
+            b"2024-01-31 price KWH 0.0000001 EUR\n",
             "<stdin>:1:22: refusal 7: ",
         ),
         (
@@ -228,11 +283,12 @@ fn a_file_without_end_is_refused_for_its_size() {
 
 #[test]
 fn wrong_words_and_files_end_with_2() {
-    let wrong: [&[&str]; 8] = [
+    let wrong: [&[&str]; 9] = [
         &[],
         &["frob"],
         &["read"],
         &["read", "--frob", CLEAN],
+        &["read", "--exact", CLEAN],
         &["read", CLEAN, CLEAN],
         &["read", "--rows", "--json", CLEAN],
         &["read", "examples/none.beancount"],

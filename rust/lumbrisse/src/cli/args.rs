@@ -19,6 +19,8 @@ pub struct Job {
     pub verb: Verb,
     pub input: Input,
     pub form: Form,
+    /// Whether `eval` refuses what it would round.
+    pub exact: bool,
 }
 
 /// The reader's calls that a command stands for.
@@ -85,6 +87,7 @@ fn verb(word: &OsString) -> Result<Verb, Usage> {
 fn job(verb: Verb, words: impl Iterator<Item = OsString>) -> Result<Request, Usage> {
     let mut form = None;
     let mut target = None;
+    let mut exact = false;
     let mut options = true;
     for word in words {
         let option = word
@@ -102,6 +105,10 @@ fn job(verb: Verb, words: impl Iterator<Item = OsString>) -> Result<Request, Usa
                 continue;
             }
             Some("-h" | "--help") => return Ok(Request::Help(Some(verb))),
+            Some("--exact") if verb == Verb::Eval => {
+                exact = true;
+                continue;
+            }
             Some("--json") => Form::Json,
             Some("--rows") if verb != Verb::Eval => Form::Rows,
             Some(other) => return wrong(format!("no option of this command is named {other}")),
@@ -117,6 +124,7 @@ fn job(verb: Verb, words: impl Iterator<Item = OsString>) -> Result<Request, Usa
         verb,
         input: input(verb, target),
         form: form.unwrap_or(Form::Person),
+        exact,
     }))
 }
 
@@ -159,7 +167,12 @@ mod tests {
     }
 
     fn run(verb: Verb, input: Input, form: Form) -> Result<Request, Usage> {
-        Ok(Request::Run(Job { verb, input, form }))
+        Ok(Request::Run(Job {
+            verb,
+            input,
+            form,
+            exact: false,
+        }))
     }
 
     #[test]
@@ -206,6 +219,19 @@ mod tests {
     }
 
     #[test]
+    fn an_expression_may_be_asked_for_exactly() {
+        for words in [["eval", "--exact", "1/3"], ["eval", "1/3", "--exact"]] {
+            let job = Job {
+                verb: Verb::Eval,
+                input: Input::Word("1/3".into()),
+                form: Form::Person,
+                exact: true,
+            };
+            assert_eq!(parsed(&words), Ok(Request::Run(job)));
+        }
+    }
+
+    #[test]
     fn help_is_for_all_or_for_a_command() {
         assert_eq!(parsed(&["--help"]), Ok(Request::Help(None)));
         assert_eq!(
@@ -217,13 +243,14 @@ mod tests {
 
     #[test]
     fn wrong_words_are_told() {
-        let wrong: [&[&str]; 9] = [
+        let wrong: [&[&str]; 10] = [
             &[],
             &["frob"],
             &["help", "frob"],
             &["read"],
             &["read", "a", "b"],
             &["read", "--frob", "a"],
+            &["read", "--exact", "a"],
             &["read", "--rows", "--json", "a"],
             &["eval", "--rows", "1"],
             &["eval", "1", "+", "2"],

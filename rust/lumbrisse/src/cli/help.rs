@@ -28,6 +28,7 @@ A FILE or EXPRESSION of - is standard input.
 Options:
   --rows      read, recover: the rows themselves, one to a line
   --json      the answer as JSON
+  --exact     eval: refuse what would be rounded
   -h, --help  this text; after a command, more on it
   -V, --version
 
@@ -61,7 +62,8 @@ of one part, a line with something left over.
 With --rows, a line for each row: kind start end line p q value
   1 to 13   an entry; p is its date, q the number of detail rows after it
   20 to 37  a detail: flag, payee, narration, tag, account, amount, posting ..
-Places count bytes from 0, lines from 1; a value counts millionths.
+Places count bytes from 0, lines from 1; a value counts millionths. Products and quotients are rounded
+to the nearest one, as by eval.
 
 With --json, one object: \"accepted\", then \"rows\" or \"refusal\".
 ";
@@ -85,17 +87,23 @@ The exit status is 1 where any block was refused.
 ";
 
 const EVAL: &str = "\
-lumbrisse eval [--json] EXPRESSION
+lumbrisse eval [--exact] [--json] EXPRESSION
 
 One expression, as a ledger has it: + - * / and groups, with points and commas in numbers. Values are
-exact, in whole millionths, up to 999,999,999.999999; anything else is refused, never rounded.
+whole millionths, up to 999,999,999.999999.
+
+Each product and each quotient is rounded to the nearest millionth, a tie to the even one. Where that
+changed anything, the exact value stands behind the rounded one. With --exact nothing is rounded: what
+is not a whole number of millionths is refused. A number that is written finer is refused either way.
 
   lumbrisse eval '(1,204.5 - 1200)/2'     2.25
-  lumbrisse eval 1/3                      refusal 7: not a whole number of millionths
+  lumbrisse eval 100/3                    33.333333 (rounded from 33.333333333..)
+  lumbrisse eval --exact 100/3            refusal 7: not a whole number of millionths
   lumbrisse eval '-(2)*3'                 -2: a negated group ends its expression
 
 Where the expression ends before the text does, what was not read is said on standard error.
 An expression that starts with -- goes after a word -- of its own.
 
-With --json, one object: \"value\", \"millionths\" and \"stop\", the place after its last byte.
+With --json, one object: \"value\", \"millionths\", \"rounded\" (true or false) and \"stop\", the place after
+its last byte.
 ";

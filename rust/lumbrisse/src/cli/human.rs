@@ -2,12 +2,14 @@
 
 use std::io::{self, Write};
 
-use lumbrisse::{Kind, Refusal};
+use lumbrisse::{Evaluated, Kind, Millionths, Refusal};
 
+use super::fraction::Fraction;
 use super::paint::Paint;
 use super::place::{self, Known};
 use super::source::Source;
 use super::summary::{refused_blocks, Summary};
+use super::{decimal, exact};
 
 const OPEN_QUOTE: &str = "this line has an odd number of quotes: one may have been left open";
 
@@ -76,6 +78,33 @@ pub fn refused(
         writeln!(out, "{:>5} = {OPEN_QUOTE}", "")?;
     }
     Ok(())
+}
+
+/// The value of an expression, and what it was rounded from.
+pub fn evaluated(
+    out: &mut impl Write,
+    source: &Source,
+    found: Evaluated,
+    rounded: bool,
+) -> io::Result<()> {
+    let value = Millionths(found.value);
+    match rounded {
+        true => writeln!(out, "{value} ({})", rounding(source, found)),
+        false => writeln!(out, "{value}"),
+    }
+}
+
+/// What is said of a value in which a step was rounded; such a value can be the exact one all the same.
+fn rounding(source: &Source, found: Evaluated) -> String {
+    let text = source.bytes.get(..found.stop).unwrap_or_default();
+    let exact = exact::value(text);
+    if exact == Fraction::new(found.value.into(), 1_000_000) {
+        return "rounded on the way".to_string();
+    }
+    match exact.and_then(decimal::of) {
+        Some(decimal) => format!("rounded from {decimal}"),
+        None => "rounded".to_string(),
+    }
 }
 
 /// What an expression left of its text, where that is more than blanks.

@@ -47,14 +47,19 @@ pub fn refused(out: &mut impl Write, source: &Source, refusal: Refusal) -> io::R
     )
 }
 
-/// The value of an expression.
-pub fn evaluated(out: &mut impl Write, source: &Source, found: Evaluated) -> io::Result<()> {
+/// The value of an expression, and whether anything in it was rounded.
+pub fn evaluated(
+    out: &mut impl Write,
+    source: &Source,
+    found: Evaluated,
+    rounded: bool,
+) -> io::Result<()> {
     let file = quoted(source.name.as_bytes());
     let text = quoted(&source.bytes);
     let value = Millionths(found.value);
     writeln!(
         out,
-        "{{\"file\":{file},\"accepted\":true,\"expression\":{text},\"value\":\"{value}\",\"millionths\":{},\"stop\":{}}}",
+        "{{\"file\":{file},\"accepted\":true,\"expression\":{text},\"value\":\"{value}\",\"millionths\":{},\"rounded\":{rounded},\"stop\":{}}}",
         found.value, found.stop
     )
 }

@@ -1,6 +1,9 @@
 //! The command line: what is asked for, the call that answers it, and how the answer is written.
 
 mod args;
+mod decimal;
+mod exact;
+mod fraction;
 mod help;
 mod human;
 mod json;
@@ -80,7 +83,7 @@ fn run_job(job: &Job) -> Status {
     let (written, status) = match job.verb {
         Verb::Read => read(&mut out, job.form, &source),
         Verb::Recover => recover(&mut out, job.form, &source),
-        Verb::Eval => eval(&mut out, job.form, &source),
+        Verb::Eval => eval(&mut out, job.form, job.exact, &source),
     };
     ended(written.and_then(|()| out.flush()), status)
 }
@@ -120,14 +123,21 @@ fn recover(out: &mut impl Write, form: Form, source: &Source) -> Outcome {
     }
 }
 
-fn eval(out: &mut impl Write, form: Form, source: &Source) -> Outcome {
-    match lumbrisse::expression(&source.bytes) {
+fn eval(out: &mut impl Write, form: Form, exact: bool, source: &Source) -> Outcome {
+    let exactly = lumbrisse::expression_exact(&source.bytes);
+    let answer = match exact {
+        true => exactly,
+        false => lumbrisse::expression(&source.bytes),
+    };
+    match answer {
         Ok(found) => {
+            // What has another answer without rounding was rounded.
+            let rounded = answer != exactly;
             let written = match form {
-                Form::Json => json::evaluated(out, source, found),
+                Form::Json => json::evaluated(out, source, found, rounded),
                 Form::Person | Form::Rows => {
                     human::unread(&mut io::stderr(), source, found.stop);
-                    writeln!(out, "{}", lumbrisse::Millionths(found.value))
+                    human::evaluated(out, source, found, rounded)
                 }
             };
             (written, Status::Accepted)
