@@ -1,4 +1,5 @@
-// What the site box calls: document 01's calls, on byte slices and numbers. Nothing is asked of the caller.
+// What the site box calls, on byte slices and numbers: document 01's calls, and those that document 02 adds. Nothing is
+// asked of the caller.
 pub mod reply;
 
 use access::single;
