@@ -75,7 +75,7 @@ ended true Miss y e v = refl
 ended true (Hard k i) y e v = refl
 ended false a y e v = refl
 
-goes-else : (calc : Arithmetic) (op : ℕ → Bool) (x : ℕ → Ans Value) (s : List ℕ) (k : ℕ) (v : Value) (e : ℕ) (y : Ans Value) → (goesOn calc op x s k v e else y) ≡ goesOn calc op x s k v e
+pub goes-else : (calc : Arithmetic) (op : ℕ → Bool) (x : ℕ → Ans Value) (s : List ℕ) (k : ℕ) (v : Value) (e : ℕ) (y : Ans Value) → (goesOn calc op x s k v e else y) ≡ goesOn calc op x s k v e
 unfolding goesOn _else_
 goes-else calc op x s zero v e y = refl
 goes-else calc op x s (suc k) v e y =

@@ -49,7 +49,7 @@ module _ (s : List ℕ) where
       run-same isSpace s (λ i. blanks s i) (λ i l o. run-on isBlank s i l (space-blank (getD s i 0) o)) b c e
       ∙ run-stops isBlank s c (h .0) (literal-blank (getD s c 0) (h .1))
 
-  negation-misses : (calc : Arithmetic) (n at e : ℕ) (v : Value) → literal s at ≡ To e v → (t : Bool) → eqb (getD s at 0) 45 ≡ t → negation (group calc n s) s at ≡ Miss
+  pub negation-misses : (calc : Arithmetic) (n at e : ℕ) (v : Value) → literal s at ≡ To e v → (t : Bool) → eqb (getD s at 0) 45 ≡ t → negation (group calc n s) s at ≡ Miss
   unfolding negation literal unsigned _then_
   negation-misses calc n at e v h false f = rw f
   negation-misses calc n at e v h true f =

@@ -25,7 +25,7 @@ pub enum Answer {
 // How many groups may be open around a place (refusal 3).
 pub const GROUPS: usize = 32;
 
-fn negated(v: Value) -> Value
+pub fn negated(v: Value) -> Value
     ensures { λ r. ⌜ r ≡ negatedValue v ⌝ }
 {
     match v {
@@ -50,7 +50,7 @@ fn operated_by(op: u8, a: Decimal, b: Decimal, form: Form) -> Value
 }
 
 // The left operand's refusal goes first, then the right one's, then the operation's own.
-fn combine(op: u8, v: Value, w: Value, form: Form) -> Value
+pub fn combine(op: u8, v: Value, w: Value, form: Form) -> Value
     ensures { λ r. ⌜ r ≡ combined form op v w ⌝ }
 {
     match v {
@@ -63,7 +63,7 @@ fn combine(op: u8, v: Value, w: Value, form: Form) -> Value
 }
 
 // Whether a byte is `*` or `/` where `times`, else whether it is `+` or `-`.
-fn is_operator(times: bool, b: u8) -> bool
+pub fn is_operator(times: bool, b: u8) -> bool
     ensures { λ r. ⌜ r ≡ operatorOf times b ⌝ }
 {
     if times {

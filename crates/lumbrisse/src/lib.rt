@@ -52,6 +52,25 @@ pub extern "C" fn lumbrisse_expression_exact(text: &[u8]) -> Evaluated
     reply::evaluated_of(a)
 }
 
+// The expression in the rounding form, by the second engine (M-113): the answer of `lumbrisse_expression`, and the same
+// small stack at any depth.
+#[no_mangle]
+pub extern "C" fn lumbrisse_expression_stacked(text: &[u8]) -> Evaluated
+    ensures { λ r. ⌜ ExpressionPromise Form.Rounding (now (text .entry)) r ⌝ }
+{
+    let a = single::evaluate_stacked(text, Form::Rounding);
+    reply::evaluated_of(a)
+}
+
+// The expression in the exact form, by the second engine: the answer of `lumbrisse_expression_exact`.
+#[no_mangle]
+pub extern "C" fn lumbrisse_expression_stacked_exact(text: &[u8]) -> Evaluated
+    ensures { λ r. ⌜ ExpressionPromise Form.Exact (now (text .entry)) r ⌝ }
+{
+    let a = single::evaluate_stacked(text, Form::Exact);
+    reply::evaluated_of(a)
+}
+
 // String content without its escapes: how many bytes it has, or a refusal.
 #[no_mangle]
 pub extern "C" fn lumbrisse_content(content: &[u8], buffer: &mut [u8]) -> Reply

@@ -1,7 +1,9 @@
 -- The answer of the call with a number, and what it leaves.
 use Prim.Native.Nat.{ℕ}
 use mathlib.Core.Path.{_≡_}
+use mathlib.Core.Bool.{true, false}
 use mathlib.Core.List.{List}
+use lib.Dec.{eqb}
 use borrow.Author.Tests.{ne-eqb}
 use Rattle.decimal.specs.declared.Form.the-variants.{Exact, Rounding}
 use Rattle.ledger.specs.Plain.{plain}
@@ -9,7 +11,7 @@ use Rattle.recovery.specs.Recovering.{recovered}
 use Rattle.lumbrisse.specs.Promises.{TablePromise, ContentPromise, ExpressionPromise, TagPromise, SpanPromise}
 use Rattle.lumbrisse.specs.declared.reply as box
 use Rattle.replay.specs.declared.call.Outcome.{Outcome}
-use Rattle.replay.specs.Replies.{ofReply, ofEvaluated, ofPart, outcome, leftBy}
+use Rattle.replay.specs.Replies.{ofReply, ofEvaluated, ofPart, isRounding, isExact, outcome, leftBy}
 
 pub evaluated-told : (e : box.Evaluated.Evaluated) (v : ℕ) → v ≡ e .bits
     → Outcome.Answered (record { number = e .number; place = e .place; count = 0; value = v }) ≡ Outcome.Answered (ofEvaluated e)
@@ -35,22 +37,36 @@ module _ (k a b : ℕ) (s u t : List ℕ) where
     made-force e p = rw (w, e, p)
 
   module _ (o : Outcome) (r : box.Evaluated.Evaluated) (w : o ≡ Outcome.Answered (ofEvaluated r)) where
-    pub made-single : k ≡ 3 → ExpressionPromise Rounding s r → o ≡ outcome k a b s u t
-    unfolding outcome
-    made-single e p = rw (w, e, p)
+    -- c is the number that the code knows k by
+    module _ (c : ℕ) (e : k ≡ c) where
+      pub made-rounding : isRounding c ≡ true → ExpressionPromise Rounding s r → o ≡ outcome k a b s u t
+      unfolding outcome
+      made-rounding h p = rw (w, e, h, p)
 
-    pub made-single-exact : k ≡ 9 → ExpressionPromise Exact s r → o ≡ outcome k a b s u t
-    unfolding outcome
-    made-single-exact e p = rw (w, e, p)
+      pub made-exact : isRounding c ≡ false → isExact c ≡ true → ExpressionPromise Exact s r → o ≡ outcome k a b s u t
+      unfolding outcome
+      made-exact n h p = rw (w, e, n, h, p)
 
   pub made-part : (o : Outcome) (r : box.Part.Part) → o ≡ Outcome.Answered (ofPart r) → k ≡ 5 → SpanPromise s a b r → o ≡ outcome k a b s u t
   unfolding outcome
   made-part o r w e p = rw (w, e, p .part)
 
   module _ (n1 : k ≡ 1 → ⊥) (n2 : k ≡ 2 → ⊥) (n4 : k ≡ 4 → ⊥) where
-    pub made-unknown : (k ≡ 3 → ⊥) → (k ≡ 5 → ⊥) → (k ≡ 6 → ⊥) → (k ≡ 9 → ⊥) → Outcome.Unknown ≡ outcome k a b s u t
+    pub made-unknown : (k ≡ 3 → ⊥) → (k ≡ 5 → ⊥) → (k ≡ 6 → ⊥) → (k ≡ 9 → ⊥) → (k ≡ 12 → ⊥) → (k ≡ 13 → ⊥)
+        → Outcome.Unknown ≡ outcome k a b s u t
     unfolding outcome
-    made-unknown n3 n5 n6 n9 = rw (ne-eqb k 1 n1, ne-eqb k 2 n2, ne-eqb k 3 n3, ne-eqb k 4 n4, ne-eqb k 5 n5, ne-eqb k 6 n6, ne-eqb k 9 n9)
+    made-unknown n3 n5 n6 n9 n12 n13 =
+        rw (
+          ne-eqb k 1 n1,
+          ne-eqb k 2 n2,
+          ne-eqb k 3 n3,
+          ne-eqb k 4 n4,
+          ne-eqb k 5 n5,
+          ne-eqb k 6 n6,
+          ne-eqb k 9 n9,
+          ne-eqb k 12 n12,
+          ne-eqb k 13 n13,
+        )
 
 -- ---- the lent buffer: w is what the call left
 module _ (k : ℕ) (s t : List ℕ) where
@@ -66,24 +82,13 @@ module _ (k : ℕ) (s t : List ℕ) where
   unfolding leftBy
   left-content w r e p = rw e (p .bytes)
 
-  pub left-three : k ≡ 3 → t ≡ leftBy k s t
+  -- a call that writes nothing, known by its number c
+  pub left-alone : (c : ℕ) → k ≡ c → eqb c 1 ≡ false → eqb c 2 ≡ false → eqb c 4 ≡ false → t ≡ leftBy k s t
   unfolding leftBy
-  left-three e = rw e
-
-  pub left-five : k ≡ 5 → t ≡ leftBy k s t
-  unfolding leftBy
-  left-five e = rw e
-
-  pub left-six : k ≡ 6 → t ≡ leftBy k s t
-  unfolding leftBy
-  left-six e = rw e
-
-  pub left-nine : k ≡ 9 → t ≡ leftBy k s t
-  unfolding leftBy
-  left-nine e = rw e
+  left-alone c e n1 n2 n4 = rw (e, n1, n2, n4)
 
   pub left-unknown : (k ≡ 1 → ⊥) → (k ≡ 2 → ⊥) → (k ≡ 4 → ⊥) → t ≡ leftBy k s t
   unfolding leftBy
   left-unknown n1 n2 n4 = rw (ne-eqb k 1 n1, ne-eqb k 2 n2, ne-eqb k 4 n4)
 
-pub ruleset made-laws = (evaluated-told, made-plain, made-recovering, made-single, made-single-exact, made-content, made-part, made-force, made-unknown, left-plain, left-recovering, left-content, left-three, left-five, left-six, left-nine, left-unknown)
+pub ruleset made-laws = (evaluated-told, made-plain, made-recovering, made-rounding, made-exact, made-content, made-part, made-force, made-unknown, left-plain, left-recovering, left-content, left-alone, left-unknown)

@@ -1,6 +1,6 @@
 -- What each call answers, as the four numbers of a case, and every byte of the lent buffer afterwards.
 use Prim.Native.Nat.{ℕ, _/_}
-use mathlib.Core.Bool.{cond}
+use mathlib.Core.Bool.{Bool, cond, _||_}
 use mathlib.Core.List.{List}
 use lib.Dec.{eqb}
 use lib.ListN.{length}
@@ -27,6 +27,13 @@ ofEvaluated e = record { number = e .number; place = e .place; count = 0; value 
 abbrev pub ofPart : box.Part.Part → Reply
 ofPart p = record { number = 0; place = p .start; count = p .length; value = 0 }
 
+-- the calls of a single expression by their form; 12 and 13 are the second engine's (M-113), which answers as the first
+abbrev pub isRounding : ℕ → Bool
+isRounding k = eqb k 3 || eqb k 12
+
+abbrev pub isExact : ℕ → Bool
+isExact k = eqb k 9 || eqb k 13
+
 -- the call with a number k, of two numbers, two texts and a lent buffer
 unfoldable pub outcome : ℕ → ℕ → ℕ → List ℕ → List ℕ → List ℕ → Outcome
 outcome k a b s u t =
@@ -37,10 +44,10 @@ outcome k a b s u t =
     let content = Outcome.Answered (ofReply (contentReply (contentAnswer s (length t)))) in
     let part = Outcome.Answered (ofPart (partOf s a b)) in
     let force = Outcome.Answered (ofReply (forceReply (inForce s t a u))) in
-    cond (eqb k 1) plainly
-    (cond (eqb k 2) recovering
-    (cond (eqb k 3) single
-    (cond (eqb k 4) content (cond (eqb k 5) part (cond (eqb k 6) force (cond (eqb k 9) singleExact Outcome.Unknown))))))
+    cond (isRounding k) single
+    (cond (isExact k) singleExact
+    (cond (eqb k 1) plainly
+    (cond (eqb k 2) recovering (cond (eqb k 4) content (cond (eqb k 5) part (cond (eqb k 6) force Outcome.Unknown))))))
 
 -- the lent buffer afterwards: both readings and string content write
 unfoldable pub leftBy : ℕ → List ℕ → List ℕ → List ℕ

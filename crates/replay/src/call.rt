@@ -18,6 +18,10 @@ pub const FORCE: usize = 6;
 
 pub const SINGLE_EXACT: usize = 9;
 
+pub const STACKED: usize = 12;
+
+pub const STACKED_EXACT: usize = 13;
+
 // Number 0: accepted. What an answer has not is 0.
 pub struct Reply {
     pub number: usize,
@@ -91,6 +95,8 @@ pub fn made(
         SPAN => of_part(lumbrisse::lumbrisse_span(first, a, b)),
         FORCE => of_reply(lumbrisse::lumbrisse_tag_in_force(first, lent, a, second)),
         SINGLE_EXACT => of_evaluated(lumbrisse::lumbrisse_expression_exact(first)),
+        STACKED => of_evaluated(lumbrisse::lumbrisse_expression_stacked(first)),
+        STACKED_EXACT => of_evaluated(lumbrisse::lumbrisse_expression_stacked_exact(first)),
         _ => Outcome::Unknown,
     }
 }

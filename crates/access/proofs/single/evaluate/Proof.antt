@@ -3,21 +3,35 @@ use borrow.Author.Needs.{needs}
 use Rattle.access.proofs.single.evaluate.Statement.{statement}
 use Rattle.access.proofs.single.evaluate.Tie as tie
 
+judge-requires : tie.Need-judge-requires
+judge-requires c κs = search (needs, single-laws)
+
+enum-known-j : tie.Need-enum-known-j
+enum-known-j c = search (needs, single-laws)
+
+enum-told : tie.Need-enum-told
+enum-told c = search (needs, single-laws)
+
+expression-in-requires : tie.Need-expression-in-requires
+expression-in-requires c κs = search (needs, single-laws)
+
+told-requires : tie.Need-told-requires
+told-requires c κs = search (needs, single-laws)
+
 returns : tie.Need-returns
 returns c = search (needs, single-laws)
-
-clean-prefix-requires : tie.Need-clean-prefix-requires
-clean-prefix-requires c κs = search (needs, single-laws)
 
 returns-2 : tie.Need-returns-2
 returns-2 c = search (needs, single-laws)
 
-read-first-requires : tie.Need-read-first-requires
-read-first-requires c κs = search (needs, single-laws)
-
-returns-3 : tie.Need-returns-3
-returns-3 c = search (needs, single-laws)
-
 pub evaluate-spec : {M : Type 1} → statement M
 evaluate-spec =
-    tie.close (tie.spec returns clean-prefix-requires returns-2 read-first-requires returns-3)
+    tie.close
+    (tie.spec
+    judge-requires
+    enum-known-j
+    enum-told
+    expression-in-requires
+    told-requires
+    returns
+    returns-2)

@@ -45,6 +45,18 @@ lumbrisse-expression-exact-requires c κs = search (needs, made-laws)
 of-evaluated-requires-2 : tie.Need-of-evaluated-requires-2
 of-evaluated-requires-2 c κs = search (needs, made-laws)
 
+lumbrisse-expression-stacked-requires : tie.Need-lumbrisse-expression-stacked-requires
+lumbrisse-expression-stacked-requires c κs = search (needs, made-laws)
+
+of-evaluated-requires-3 : tie.Need-of-evaluated-requires-3
+of-evaluated-requires-3 c κs = search (needs, made-laws)
+
+lumbrisse-expression-stacked-exact-requires : tie.Need-lumbrisse-expression-stacked-exact-requires
+lumbrisse-expression-stacked-exact-requires c κs = search (needs, made-laws)
+
+of-evaluated-requires-4 : tie.Need-of-evaluated-requires-4
+of-evaluated-requires-4 c κs = search (needs, made-laws)
+
 same-length : tie.Need-same-length
 same-length c = search (needs, made-laws)
 
@@ -81,6 +93,12 @@ returns-7 c = search (needs, made-laws)
 returns-8 : tie.Need-returns-8
 returns-8 c = search (needs, made-laws)
 
+returns-9 : tie.Need-returns-9
+returns-9 c = search (needs, made-laws)
+
+returns-10 : tie.Need-returns-10
+returns-10 c = search (needs, made-laws)
+
 pub made-spec : {M : Type 1} → statement M
 made-spec =
     tie.close
@@ -99,6 +117,10 @@ made-spec =
     of-reply-requires-4
     lumbrisse-expression-exact-requires
     of-evaluated-requires-2
+    lumbrisse-expression-stacked-requires
+    of-evaluated-requires-3
+    lumbrisse-expression-stacked-exact-requires
+    of-evaluated-requires-4
     same-length
     returns
     same-length-2
@@ -110,4 +132,6 @@ made-spec =
     same-length-4
     returns-6
     returns-7
-    returns-8)
+    returns-8
+    returns-9
+    returns-10)

@@ -1,10 +1,7 @@
 use Rattle.access.proofs.SingleLaws.{single-laws}
 use borrow.Author.Needs.{needs}
-use Rattle.access.proofs.single.read_first.Statement.{statement}
-use Rattle.access.proofs.single.read_first.Tie as tie
-
-expression-in-requires : tie.Need-expression-in-requires
-expression-in-requires c κs = search (needs, single-laws)
+use Rattle.access.proofs.single.told.Statement.{statement}
+use Rattle.access.proofs.single.told.Tie as tie
 
 enum-known-a : tie.Need-enum-known-a
 enum-known-a c = search (needs, single-laws)
@@ -27,15 +24,7 @@ returns-2 c = search (needs, single-laws)
 returns-3 : tie.Need-returns-3
 returns-3 c = search (needs, single-laws)
 
-pub read-first-spec : {M : Type 1} → statement M
-read-first-spec =
+pub told-spec : {M : Type 1} → statement M
+told-spec =
     tie.close
-    (tie.spec
-    expression-in-requires
-    enum-known-a
-    valued-requires
-    enum-told
-    enum-known-a-2
-    returns
-    returns-2
-    returns-3)
+    (tie.spec enum-known-a valued-requires enum-told enum-known-a-2 returns returns-2 returns-3)

@@ -1,0 +1,5 @@
+pub mod Invariant
+pub mod Meanings
+pub mod Measure
+pub mod Keeping
+pub mod Answering
