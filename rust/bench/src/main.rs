@@ -4,7 +4,11 @@
 //! bench --oracle DIR [--plugin FILE] LEDGER[=LIMIT]..     instructions and time on ledgers, beside the crate
 //! bench --growth [--plugin FILE]                          instructions on hostile inputs of 1, 2, 4 and 8 MB
 //! bench --once read|recover LEDGER N                      reads N times: the least time in seconds, and the answer
+//! bench --once EVALUATOR TEXT N                           evaluates N times: the time of one, and the answer
+//! bench --stack                                           the stack that each evaluator takes
 //! ```
+//!
+//! EVALUATOR is expression, exact, stacked or stacked-exact: an engine in a form.
 //!
 //! DIR is the oracle's folder (or the variable ORACLE), with the program `both` of the differential run. Instructions are counted by
 //! `perf stat` where the machine permits it, else by valgrind's callgrind; with `--plugin`, by a counting plugin of qemu. LIMIT is the
@@ -20,10 +24,15 @@
 )]
 
 mod counter;
+mod evaluator;
 mod hostile;
 mod once;
+#[cfg(target_arch = "x86_64")]
+mod own_stack;
 mod report;
 mod scratch;
+#[cfg(target_arch = "x86_64")]
+mod stack;
 
 use std::io;
 use std::path::PathBuf;
@@ -31,8 +40,11 @@ use std::process::ExitCode;
 
 use report::{Bench, Ledger};
 
-const USAGE: &str =
-    "usage: bench --oracle DIR [--plugin FILE] LEDGER[=LIMIT].. | bench --growth [--plugin FILE] | bench --once read|recover LEDGER N";
+const USAGE: &str = "usage: bench --oracle DIR [--plugin FILE] LEDGER[=LIMIT]..
+       bench --growth [--plugin FILE]
+       bench --once read|recover LEDGER N
+       bench --once expression|exact|stacked|stacked-exact TEXT N
+       bench --stack";
 
 fn usage() -> io::Error {
     io::Error::other(USAGE)
@@ -78,9 +90,11 @@ fn measure(words: &[String]) -> io::Result<bool> {
 fn run() -> io::Result<bool> {
     let words: Vec<String> = std::env::args().skip(1).collect();
     match words.as_slice() {
-        [once, call, file, count] if once == "--once" => {
-            once::once(call, file, count).map(|()| true)
+        [once, call, given, count] if once == "--once" => {
+            once::once(call, given, count).map(|()| true)
         }
+        #[cfg(target_arch = "x86_64")]
+        [stack] if stack == "--stack" => stack::table().map(|()| true),
         _ => measure(&words),
     }
 }

@@ -1,18 +1,30 @@
-//! Reads a ledger some times. This program starts itself so, to be counted and timed.
+//! Makes a call some times. This program starts itself so, to be counted and timed.
 
+use std::hint::black_box;
 use std::io::{self, Write};
 use std::time::Instant;
 
-use lumbrisse::ROW_BYTES;
+use lumbrisse::{Evaluated, Refusal, ROW_BYTES};
 
-/// Reads the file `count` times into a table with a row for each byte, which is made before and not cleared in between.
-pub fn once(call: &str, file: &str, count: &str) -> io::Result<()> {
-    let call = match call {
-        "read" => lumbrisse::read,
-        "recover" => lumbrisse::recover,
-        _ => return Err(io::Error::other("the call is read or recover")),
-    };
+use crate::evaluator::Evaluator;
+
+/// Makes the call `count` times, on a ledger's file or on an expression.
+pub fn once(call: &str, given: &str, count: &str) -> io::Result<()> {
     let count: u32 = count.parse().map_err(io::Error::other)?;
+    match (call, Evaluator::named(call)) {
+        (_, Some(evaluator)) => evaluate(evaluator, given.as_bytes(), count),
+        ("read", _) => read(lumbrisse::read, given, count),
+        ("recover", _) => read(lumbrisse::recover, given, count),
+        _ => Err(io::Error::other(format!("{call} is no call"))),
+    }
+}
+
+/// Reads into a table with a row for each byte, which is made before and not cleared in between.
+fn read(
+    call: fn(&[u8], &mut [u8]) -> Result<usize, Refusal>,
+    file: &str,
+    count: u32,
+) -> io::Result<()> {
     let ledger = std::fs::read(file)?;
     let mut table = vec![0; ledger.len().saturating_mul(ROW_BYTES)];
     let (mut least, mut answer) = (None, Ok(0));
@@ -26,5 +38,25 @@ pub fn once(call: &str, file: &str, count: &str) -> io::Result<()> {
     match answer {
         Ok(rows) => writeln!(io::stdout(), "{least:.6} {rows} rows"),
         Err(refusal) => writeln!(io::stdout(), "{least:.6} refusal {}", refusal.number),
+    }
+}
+
+/// Evaluates with nothing in between, as a look at the clock takes longer than a short expression.
+fn evaluate(evaluator: Evaluator, text: &[u8], count: u32) -> io::Result<()> {
+    let call = evaluator.call();
+    let mut answer = Ok(Evaluated { value: 0, stop: 0 });
+    let start = Instant::now();
+    for _ in 0..count {
+        answer = black_box(call(black_box(text)));
+    }
+    let one = start.elapsed().as_secs_f64() / f64::from(count.max(1));
+    match answer {
+        Ok(found) => writeln!(
+            io::stdout(),
+            "{one:.9} {} up to {}",
+            found.value,
+            found.stop
+        ),
+        Err(refusal) => writeln!(io::stdout(), "{one:.9} refusal {}", refusal.number),
     }
 }

@@ -2,7 +2,21 @@
 
 use std::path::PathBuf;
 
-/// What a run is given.
+/// What the program is asked to do.
+#[derive(Clone, Debug)]
+pub enum Job {
+    /// Compares ledgers with the oracle.
+    Ledgers(Arguments),
+    /// Compares the two engines, and the model, on expressions.
+    Expressions {
+        /// How many are made.
+        count: u64,
+        /// What they are made from.
+        seed: u64,
+    },
+}
+
+/// What a run on ledgers is given.
 #[derive(Clone, Debug)]
 pub struct Arguments {
     /// The oracle's folder.
@@ -20,29 +34,51 @@ pub struct Arguments {
 }
 
 const USAGE: &str =
-    "usage: differential --oracle DIR [--count N] [--seed S] [--real FILE].. [--smallest N] [--sample FILE]";
+    "usage: differential --oracle DIR [--count N] [--seed S] [--real FILE].. [--smallest N] [--sample FILE]
+       differential --expressions N [--seed S]";
+
+/// The seed where none is given.
+const SEED: u64 = 1;
 
 /// Reads the program's own arguments.
-pub fn given() -> Result<Arguments, String> {
+pub fn given() -> Result<Job, String> {
     let oracle = std::env::var_os("ORACLE").map(PathBuf::from);
     parsed(std::env::args().skip(1), oracle)
 }
 
-fn parsed(
-    words: impl Iterator<Item = String>,
-    oracle: Option<PathBuf>,
-) -> Result<Arguments, String> {
+fn parsed(mut words: impl Iterator<Item = String>, oracle: Option<PathBuf>) -> Result<Job, String> {
+    let mut pairs = Vec::new();
+    while let Some(name) = words.next() {
+        pairs.push((name, words.next().ok_or(USAGE)?));
+    }
+    match pairs.iter().any(|(name, _)| name == "--expressions") {
+        true => expressions(pairs),
+        false => ledgers(pairs, oracle.unwrap_or_default()).map(Job::Ledgers),
+    }
+}
+
+fn expressions(pairs: Vec<(String, String)>) -> Result<Job, String> {
+    let (mut count, mut seed) = (0, SEED);
+    for (name, value) in pairs {
+        match name.as_str() {
+            "--expressions" => count = number(&value)?,
+            "--seed" => seed = number(&value)?,
+            _ => return Err(format!("{name} is not known here\n{USAGE}")),
+        }
+    }
+    Ok(Job::Expressions { count, seed })
+}
+
+fn ledgers(pairs: Vec<(String, String)>, oracle: PathBuf) -> Result<Arguments, String> {
     let mut arguments = Arguments {
-        oracle: oracle.unwrap_or_default(),
+        oracle,
         count: 1_000_000,
-        seed: 1,
+        seed: SEED,
         real: Vec::new(),
         smallest: 0,
         sample: None,
     };
-    let mut words = words;
-    while let Some(name) = words.next() {
-        let value = words.next().ok_or(USAGE)?;
+    for (name, value) in pairs {
         match name.as_str() {
             "--oracle" => arguments.oracle = PathBuf::from(value),
             "--count" => arguments.count = number(&value)?,
@@ -66,16 +102,27 @@ fn number<T: std::str::FromStr>(text: &str) -> Result<T, String> {
 
 #[cfg(test)]
 mod tests {
-    use super::parsed;
+    use super::{parsed, Job};
 
-    fn of(text: &str) -> Result<super::Arguments, String> {
+    fn of(text: &str) -> Result<Job, String> {
         parsed(text.split_whitespace().map(str::to_owned), None)
     }
 
     #[test]
     fn words_are_read() {
         let got = of("--oracle /o --count 5 --seed 7 --real a --real b");
-        assert!(got.is_ok_and(|a| a.count == 5 && a.seed == 7 && a.real.len() == 2));
+        assert!(got.is_ok_and(|job| matches!(
+            job,
+            Job::Ledgers(a) if a.count == 5 && a.seed == 7 && a.real.len() == 2
+        )));
+    }
+
+    #[test]
+    fn expressions_need_no_oracle() {
+        for text in ["--expressions 5 --seed 7", "--seed 7 --expressions 5"] {
+            let got = of(text);
+            assert!(matches!(got, Ok(Job::Expressions { count: 5, seed: 7 })));
+        }
     }
 
     #[test]
@@ -86,6 +133,9 @@ mod tests {
             "--oracle",
             "--oracle /o --count x",
             "--oracle /o --what 1",
+            "--expressions",
+            "--expressions x",
+            "--expressions 5 --count 5",
         ] {
             assert!(of(text).is_err(), "{text}");
         }

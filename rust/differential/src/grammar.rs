@@ -15,11 +15,7 @@ struct Maker<'a> {
 
 /// A ledger of a few entries, and the productions that it took.
 pub fn ledger(random: &mut Random) -> (Vec<u8>, Taken) {
-    let mut maker = Maker {
-        random,
-        out: Vec::new(),
-        taken: Taken::default(),
-    };
+    let mut maker = Maker::new(random);
     let entries = maker.random.below(4) + maker.random.below(3) + 1;
     for _ in 0..entries {
         maker.entry();
@@ -31,7 +27,22 @@ pub fn ledger(random: &mut Random) -> (Vec<u8>, Taken) {
     (maker.out, maker.taken)
 }
 
+/// An expression as the ledgers have them.
+pub fn expression(random: &mut Random) -> Vec<u8> {
+    let mut maker = Maker::new(random);
+    maker.expression(3);
+    maker.out
+}
+
 impl Maker<'_> {
+    fn new(random: &mut Random) -> Maker<'_> {
+        Maker {
+            random,
+            out: Vec::new(),
+            taken: Taken::default(),
+        }
+    }
+
     fn take(&mut self, production: Production) {
         self.taken.add(production);
     }

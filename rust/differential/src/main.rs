@@ -1,12 +1,14 @@
-//! Compares the reader with the crate that it replaces, beancount-parser 2.6.0, inside the domain of documents 01 and 02.
+//! Compares the reader with the crate that it replaces, beancount-parser 2.6.0, inside the domain of documents 01 and
+//! 02, and the reader's two engines for expressions with each other and with a model.
 //!
 //! ```text
 //! differential --oracle DIR [--count N] [--seed S] [--real FILE].. [--smallest N] [--sample FILE]
+//! differential --expressions N [--seed S]
 //! ```
 //!
-//! DIR is the oracle's folder (or the variable ORACLE), to which `oracle/build` has added the program `both`. Ends with 1 where an
-//! answer differs, and then shows the smallest ledger found that does; and where a production of the grammar was never compared in a
-//! run of 100,000 ledgers or more.
+//! DIR is the oracle's folder (or the variable ORACLE), to which `oracle/build` has added the program `both`. Ends with
+//! 1 where an answer differs, and then shows the smallest ledger or expression found that does; and where a run of
+//! 100,000 or more never compared a production of the grammar, or never met a number that an expression can get.
 
 #![deny(unsafe_code, missing_docs)]
 #![deny(clippy::unwrap_used, clippy::expect_used, clippy::panic)]
@@ -14,7 +16,12 @@
 
 mod arguments;
 mod damage;
+#[path = "../../lumbrisse/tests/edges/mod.rs"]
+mod edges;
+mod expressions;
 mod grammar;
+#[path = "../../lumbrisse/tests/model/mod.rs"]
+mod model;
 mod oracle;
 mod production;
 mod random;
@@ -33,7 +40,7 @@ use std::sync::mpsc;
 use std::thread;
 use std::time::Instant;
 
-use arguments::Arguments;
+use arguments::{Arguments, Job};
 use oracle::Single;
 use random::Random;
 use source::{made, plain, Made, Source};
@@ -213,14 +220,12 @@ fn run(arguments: &Arguments) -> io::Result<bool> {
 }
 
 fn main() -> ExitCode {
-    let arguments = match arguments::given() {
-        Ok(arguments) => arguments,
-        Err(message) => {
-            eprintln!("differential: {message}");
-            return ExitCode::from(2);
-        }
+    let passed = match arguments::given() {
+        Ok(Job::Ledgers(arguments)) => run(&arguments),
+        Ok(Job::Expressions { count, seed }) => expressions::run(count, seed),
+        Err(message) => Err(io::Error::other(message)),
     };
-    match run(&arguments) {
+    match passed {
         Ok(true) => ExitCode::SUCCESS,
         Ok(false) => ExitCode::FAILURE,
         Err(error) => {

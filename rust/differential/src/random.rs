@@ -5,7 +5,7 @@
 pub struct Random(u64);
 
 impl Random {
-    /// The generator of the ledger number `index` in a run with this seed: any ledger can be made again on its own.
+    /// The generator of the text number `index` in a run with this seed: any text can be made again on its own.
     pub fn of(seed: u64, index: u64) -> Random {
         let mut state = seed
             .wrapping_mul(0x9E37_79B9_7F4A_7C15)

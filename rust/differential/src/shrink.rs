@@ -1,8 +1,8 @@
-//! The smallest ledger that still has a property: without lines, then without bytes, then with plainer bytes.
+//! The smallest text that still has a property: without lines, then without bytes, then with plainer bytes.
 
 /// Takes away what the property does not need.
-pub fn shrunk(ledger: &[u8], mut still: impl FnMut(&[u8]) -> bool) -> Vec<u8> {
-    let mut best = ledger.to_vec();
+pub fn shrunk(text: &[u8], mut still: impl FnMut(&[u8]) -> bool) -> Vec<u8> {
+    let mut best = text.to_vec();
     loop {
         let before = best.clone();
         let lines: Vec<Vec<u8>> = best

@@ -122,6 +122,36 @@ pub fn expression_exact(text: &[u8]) -> Result<Evaluated, Refusal> {
     evaluated(ffi::expression_exact(text))
 }
 
+/// The expression at the start of a text, with what is pending in a table of fixed size.
+///
+/// Answers as [`expression`] for every text. It takes the same small stack at any depth of groups, where [`expression`]
+/// takes more for each group that is open; short expressions take it longer. A display takes this one, a box the other.
+///
+/// ```
+/// let deep = [b"(".repeat(32), b"100/3".to_vec(), b")".repeat(32)].concat();
+/// let found = lumbrisse::expression_stacked(&deep)?;
+/// assert_eq!((found.value, found.stop), (33_333_333, 69));
+/// assert_eq!(lumbrisse::expression(&deep), Ok(found));
+/// # Ok::<(), lumbrisse::Refusal>(())
+/// ```
+pub fn expression_stacked(text: &[u8]) -> Result<Evaluated, Refusal> {
+    evaluated(ffi::expression_stacked(text))
+}
+
+/// The exact form on the stack of [`expression_stacked`].
+///
+/// Answers as [`expression_exact`] for every text.
+///
+/// ```
+/// for text in [&b"100/8"[..], b"100/3", b"2*(3"] {
+///     let exact = lumbrisse::expression_exact(text);
+///     assert_eq!(lumbrisse::expression_stacked_exact(text), exact);
+/// }
+/// ```
+pub fn expression_stacked_exact(text: &[u8]) -> Result<Evaluated, Refusal> {
+    evaluated(ffi::expression_stacked_exact(text))
+}
+
 /// String content without its escapes: writes it to the front of the buffer and gives its length.
 ///
 /// Content is what stands between the quotes of a string. Refused with 10 where it is not valid, then with 9 and the need in

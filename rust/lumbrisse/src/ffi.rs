@@ -1,4 +1,4 @@
-//! The archive's seven functions, and the only unsafe code: each is called with the pointer and length of a live slice.
+//! The archive's nine functions, and the only unsafe code: each is called with the pointer and length of a live slice.
 #![allow(unsafe_code)]
 
 /// The answer of a call that reads or writes: number 0 is accepted.
@@ -47,6 +47,9 @@ mod archive {
         ) -> Reply;
         pub fn lumbrisse_expression(text: *const u8, text_length: usize) -> Evaluated;
         pub fn lumbrisse_expression_exact(text: *const u8, text_length: usize) -> Evaluated;
+        pub fn lumbrisse_expression_stacked(text: *const u8, text_length: usize) -> Evaluated;
+        pub fn lumbrisse_expression_stacked_exact(text: *const u8, text_length: usize)
+            -> Evaluated;
         pub fn lumbrisse_content(
             content: *const u8,
             content_length: usize,
@@ -97,13 +100,29 @@ pub fn recover(ledger: &[u8], table: &mut [u8]) -> Reply {
 }
 
 pub fn expression(text: &[u8]) -> Evaluated {
-    // SAFETY: the slice lives through the call. The function is proved for any bytes: it reads within `text` and keeps no pointer.
-    unsafe { archive::lumbrisse_expression(text.as_ptr(), text.len()) }
+    evaluate(archive::lumbrisse_expression, text)
 }
 
 pub fn expression_exact(text: &[u8]) -> Evaluated {
-    // SAFETY: as for `expression`.
-    unsafe { archive::lumbrisse_expression_exact(text.as_ptr(), text.len()) }
+    evaluate(archive::lumbrisse_expression_exact, text)
+}
+
+pub fn expression_stacked(text: &[u8]) -> Evaluated {
+    evaluate(archive::lumbrisse_expression_stacked, text)
+}
+
+pub fn expression_stacked_exact(text: &[u8]) -> Evaluated {
+    evaluate(archive::lumbrisse_expression_stacked_exact, text)
+}
+
+/// Calls one of the four functions on a single expression.
+fn evaluate(
+    function: unsafe extern "C" fn(*const u8, usize) -> Evaluated,
+    text: &[u8],
+) -> Evaluated {
+    // SAFETY: the slice lives through the call. Each of the four is proved for any bytes: it reads within `text` and
+    // keeps no pointer.
+    unsafe { function(text.as_ptr(), text.len()) }
 }
 
 pub fn content(content: &[u8], buffer: &mut [u8]) -> Reply {

@@ -10,6 +10,8 @@
 //! | [`recover`] | the rows of every block that reads, and a row of kind [`Kind::Refused`] for each block that does not |
 //! | [`expression`] | the value of one expression, with products and quotients rounded, and where it stops |
 //! | [`expression_exact`] | the same with nothing rounded: a product or quotient that is too fine is refused |
+//! | [`expression_stacked`] | what [`expression`] gives, on a small stack at any depth of groups |
+//! | [`expression_stacked_exact`] | what [`expression_exact`] gives, on that stack |
 //! | [`content`] | string content without its escapes |
 //! | [`tag_in_force`] | whether a tag is in force after some rows |
 //! | [`span_text`] | the text of a span: a part of the ledger itself |
@@ -50,8 +52,8 @@ mod row;
 mod table;
 
 pub use call::{
-    content, expression, expression_exact, read, read_to_vec, recover, recover_to_vec, span_text,
-    tag_in_force, Evaluated, SIZE_LIMIT,
+    content, expression, expression_exact, expression_stacked, expression_stacked_exact, read,
+    read_to_vec, recover, recover_to_vec, span_text, tag_in_force, Evaluated, SIZE_LIMIT,
 };
 pub use date::Date;
 pub use kind::Kind;

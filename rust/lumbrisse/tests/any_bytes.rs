@@ -4,8 +4,8 @@ mod dice;
 
 use dice::Dice;
 use lumbrisse::{
-    content, expression, expression_exact, read, recover, span_text, tag_in_force, Refusal, Rows,
-    ROW_BYTES,
+    content, expression, expression_exact, expression_stacked, expression_stacked_exact, read,
+    recover, span_text, tag_in_force, Evaluated, Refusal, Rows, ROW_BYTES,
 };
 
 /// What ledgers are made of, and bytes that they are not.
@@ -44,6 +44,15 @@ const PIECES: [&[u8]; 32] = [
     b"\xff",
 ];
 
+/// A call on a single expression.
+type Evaluate = fn(&[u8]) -> Result<Evaluated, Refusal>;
+
+/// Both forms, each on the first engine and on the second.
+const FORMS: [[Evaluate; 2]; 2] = [
+    [expression, expression_stacked],
+    [expression_exact, expression_stacked_exact],
+];
+
 fn text(dice: &mut Dice) -> Vec<u8> {
     let count = dice.below(30);
     (0..count)
@@ -78,11 +87,13 @@ fn any_bytes_get_rows_or_a_refusal() {
                 }
             }
         }
-        for form in [expression, expression_exact] {
-            match form(&text) {
+        for [first, stacked] in FORMS {
+            let answer = first(&text);
+            match answer {
                 Err(refusal) => sound(refusal, &text),
                 Ok(found) => assert!(found.stop <= text.len()),
             }
+            assert_eq!(stacked(&text), answer);
         }
         let mut buffer = lent.clone();
         match content(&text, &mut buffer) {

@@ -1,8 +1,9 @@
-//! The seven calls on the real archive: 01's own listing and edges, every refusal, and every lent byte afterwards.
+//! The nine calls on the real archive: 01's own listing and edges, every refusal, and every lent byte afterwards.
 
 use lumbrisse::{
-    content, expression, expression_exact, read, read_to_vec, recover, recover_to_vec, span_text,
-    tag_in_force, Evaluated, Kind, Refusal, Row, Rows, ROW_BYTES, SIZE_LIMIT,
+    content, expression, expression_exact, expression_stacked, expression_stacked_exact, read,
+    read_to_vec, recover, recover_to_vec, span_text, tag_in_force, Evaluated, Kind, Refusal, Row,
+    Rows, ROW_BYTES, SIZE_LIMIT,
 };
 
 /// What a lent byte holds before a call.
@@ -11,9 +12,12 @@ const MARK: u8 = 0xA5;
 const LISTED: &[u8] =
     b"2024-01-31 * \"Jan\" #m\n  E:Cell  12.5 KWH {2 EUR}\n  G:Import\n; end\noption \"a\" \"b\"\n";
 
-/// A form of a single expression. The two differ only in what they make of products and quotients.
+/// A call on a single expression: an engine in a form. The forms differ only in what they make of products and
+/// quotients, the engines in nothing.
 type Form = fn(&[u8]) -> Result<Evaluated, Refusal>;
-const FORMS: [Form; 2] = [expression, expression_exact];
+const ROUNDING: [Form; 2] = [expression, expression_stacked];
+const EXACT: [Form; 2] = [expression_exact, expression_stacked_exact];
+const FORMS: [Form; 4] = [ROUNDING[0], ROUNDING[1], EXACT[0], EXACT[1]];
 
 fn refusal(number: usize, place: usize) -> Refusal {
     Refusal {
@@ -146,6 +150,31 @@ fn refusal_3_is_for_groups_too_deep() {
 }
 
 #[test]
+fn refusal_3_is_for_a_group_wherever_one_may_open() {
+    let behind = |open: usize, text: &str| [&b"(".repeat(open), text.as_bytes()].concat();
+    for form in FORMS {
+        // What may stand before a group. What stands behind its `(` does not matter once it is the 33rd.
+        for before in [
+            "", " ", "\t ", "1+", "1 - ", "2*", "1/0 /\t", "1+2*", "-", "- ", "-\t",
+        ] {
+            for after in ["(", "(1)", "(1", "(x", "()"] {
+                let found = form(&behind(32, &format!("{before}{after}")));
+                let expected = Err(refusal(3, 32 + before.len()));
+                assert_eq!(found, expected, "{before}{after}");
+            }
+            let whole = format!("{before}(1){}", ")".repeat(31));
+            let number = form(&behind(31, &whole)).map_or_else(|refusal| refusal.number, |_| 0);
+            assert!(matches!(number, 0 | 8), "{whole}");
+        }
+        // Before a group these miss: an operator is left, and nothing closes.
+        for before in ["1*-", "1+ -", "--", "1", "x"] {
+            let found = form(&behind(32, &format!("{before}(1)")));
+            assert_eq!(found, Err(refusal(11, 0)), "{before}");
+        }
+    }
+}
+
+#[test]
 fn refusal_4_is_for_a_missing_part() {
     assert_eq!(reading(b"2024-01-31\n"), Err(refusal(4, 0)));
     assert_eq!(reading(b"; a\nincludes\n"), Err(refusal(4, 4)));
@@ -216,13 +245,14 @@ fn products_and_quotients_round_unless_they_must_be_exact() {
         ("999999000.000999*1.000001", 999_999_999_999_999, 6),
     ] {
         let stop = text.len();
-        assert_eq!(
-            expression(text.as_bytes()),
-            Ok(Evaluated { value, stop }),
-            "{text}"
-        );
-        let exact = expression_exact(text.as_bytes());
-        assert_eq!(exact, Err(refusal(number, 0)), "{text}");
+        for form in ROUNDING {
+            let found = form(text.as_bytes());
+            assert_eq!(found, Ok(Evaluated { value, stop }), "{text}");
+        }
+        for form in EXACT {
+            let found = form(text.as_bytes());
+            assert_eq!(found, Err(refusal(number, 0)), "{text}");
+        }
         for call in [read_to_vec, recover_to_vec] {
             let table = call(&priced(text)).unwrap();
             let found = Rows::new(&table).nth(2).map(|row| row.value);
@@ -231,8 +261,8 @@ fn products_and_quotients_round_unless_they_must_be_exact() {
     }
     // A divisor that rounding makes zero, and one that is zero behind a quotient that rounds.
     for text in [&b"1/(0.000001/3)"[..], b"1/3/0"] {
-        assert_eq!(expression(text), Err(refusal(8, 0)));
-        assert_eq!(expression_exact(text), Err(refusal(7, 0)));
+        assert_eq!(ROUNDING.map(|form| form(text)), [Err(refusal(8, 0)); 2]);
+        assert_eq!(EXACT.map(|form| form(text)), [Err(refusal(7, 0)); 2]);
     }
 }
 

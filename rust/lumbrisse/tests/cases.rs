@@ -8,8 +8,8 @@ use std::fs;
 use std::path::PathBuf;
 
 use lumbrisse::{
-    content, expression, expression_exact, read, recover, span_text, tag_in_force, Evaluated,
-    Refusal,
+    content, expression, expression_exact, expression_stacked, expression_stacked_exact, read,
+    recover, span_text, tag_in_force, Evaluated, Refusal,
 };
 
 /// Where another case file is named.
@@ -17,10 +17,10 @@ const NAMED: &str = "LUMBRISSE_CASES";
 
 /// The repository's own file, and how many cases it has: the model's, then those that a differential run has written.
 const OWN: &str = concat!(env!("CARGO_MANIFEST_DIR"), "/../../crates/replay/stdin");
-const OWN_CASES: usize = 700 + 287;
+const OWN_CASES: usize = 900 + 287;
 
 /// The numbers of the calls that this test makes.
-const CALLS: [usize; 7] = [1, 2, 3, 4, 5, 6, 9];
+const CALLS: [usize; 9] = [1, 2, 3, 4, 5, 6, 9, 12, 13];
 
 /// The bytes of a case that are left.
 struct Left<'a>(&'a [u8]);
@@ -127,6 +127,8 @@ fn called(case: &Case, buffer: &mut [u8]) -> Answer {
         }
         6 => counted(tag_in_force(case.first, buffer, a, case.second).map(usize::from)),
         9 => evaluated(expression_exact(case.first)),
+        12 => evaluated(expression_stacked(case.first)),
+        13 => evaluated(expression_stacked_exact(case.first)),
         call => panic!("the case file has a call {call}"),
     }
 }

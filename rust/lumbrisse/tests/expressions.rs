@@ -1,123 +1,16 @@
-//! Made-up expressions through both forms of the real archive, beside a model that has nothing of the archive: the
-//! command's own walk over an expression, with numbers that round or are refused at each operation as the rules say.
-
-#[path = "../src/cli/exact.rs"]
-mod exact;
-#[path = "../src/cli/fraction.rs"]
-mod fraction;
+//! Made-up expressions through both engines of the real archive, each in both forms, beside the model.
 
 mod dice;
+mod edges;
+mod model;
 
 use std::collections::BTreeMap;
 
 use dice::Dice;
-use exact::Number;
-use fraction::Fraction;
-use lumbrisse::{expression, expression_exact, Evaluated, Refusal};
+use lumbrisse::{expression, expression_exact, expression_stacked, expression_stacked_exact};
+use model::Answer;
 
 const MADE: usize = 30_000;
-
-/// In millionths.
-const LIMIT: i128 = 999_999_999_999_999;
-
-/// A value in millionths, or a refusal's number. Where `ROUNDS`, products and quotients do.
-#[derive(Clone, Copy)]
-struct Value<const ROUNDS: bool>(Result<i128, usize>);
-
-impl<const ROUNDS: bool> Number for Value<ROUNDS> {
-    fn literal(text: &[u8]) -> Self {
-        Value(exactly(Fraction::literal(text).unwrap()))
-    }
-
-    fn negated(self) -> Self {
-        Value(self.0.map(|value| -value))
-    }
-
-    /// The left operand's refusal goes first, then the right one's, then the operation's own.
-    fn operated(self, operator: u8, right: Self) -> Self {
-        let operands = self.0.and_then(|left| Ok([left, right.0?]));
-        Value(operands.and_then(|values| {
-            let [left, right] = values.map(|value| Fraction::new(value, 1_000_000).unwrap());
-            match left.operated(operator, right) {
-                // What is within the limit is never too large for a fraction.
-                None => Err(8),
-                Some(result) if ROUNDS => sized(nearest(result)),
-                Some(result) => exactly(result),
-            }
-        }))
-    }
-}
-
-/// Too large, then too fine.
-fn exactly(number: Fraction) -> Result<i128, usize> {
-    let Fraction { top, bottom } = number;
-    let top = top * 1_000_000;
-    if top.abs() > LIMIT * bottom {
-        return Err(6);
-    }
-    match top % bottom {
-        0 => Ok(top / bottom),
-        _ => Err(7),
-    }
-}
-
-fn sized(value: i128) -> Result<i128, usize> {
-    match value.abs() <= LIMIT {
-        true => Ok(value),
-        false => Err(6),
-    }
-}
-
-/// The nearest millionth, and of two that are as near the even one.
-fn nearest(number: Fraction) -> i128 {
-    let Fraction { top, bottom } = number;
-    let below = (top * 1_000_000).div_euclid(bottom);
-    let twice = 2 * (top * 1_000_000).rem_euclid(bottom);
-    let up = twice > bottom || twice == bottom && below % 2 != 0;
-    below + i128::from(up)
-}
-
-/// The model's answer, as the archive must give it.
-fn modelled<const ROUNDS: bool>(text: &[u8]) -> Result<Evaluated, Refusal> {
-    let refused = |number| Refusal {
-        number,
-        place: 0,
-        count: 0,
-    };
-    let (Value(value), rest) = exact::expression::<Value<ROUNDS>>(text).ok_or(refused(11))?;
-    Ok(Evaluated {
-        value: i64::try_from(value.map_err(refused)?).unwrap(),
-        stop: text.len() - rest.len(),
-    })
-}
-
-/// Numbers at which ties, the limit or a refusal are near.
-const NUMBERS: [&[u8]; 24] = [
-    b"0",
-    b"1",
-    b"2",
-    b"3",
-    b"7",
-    b"8",
-    b"0.5",
-    b".25",
-    b"10",
-    b"0.000001",
-    b"0.000002",
-    b"0.000003",
-    b"0.0000001",
-    b"1.000001",
-    b"1.0000005",
-    b"1.500000000000",
-    b"1,000.5",
-    b"31622.776602",
-    b"500000000",
-    b"999,999,999.999999",
-    b"999999999.9999991",
-    b"999999000.000999",
-    b"917431192.66055",
-    b"1000000000",
-];
 
 fn blanks(dice: &mut Dice, text: &mut Vec<u8>) {
     text.extend_from_slice(dice.pick(&[b"", b"", b"", b" ", b"\t", b"  "]));
@@ -130,7 +23,7 @@ fn put_digits(dice: &mut Dice, count: usize, text: &mut Vec<u8>) {
 fn put_literal(dice: &mut Dice, text: &mut Vec<u8>) {
     text.extend_from_slice(dice.pick(&[b"", b"", b"", b"", b"-", b"- "]));
     if dice.below(3) == 0 {
-        return text.extend_from_slice(dice.pick(&NUMBERS));
+        return text.extend_from_slice(dice.pick(&edges::NUMBERS));
     }
     let whole = 1 + dice.below(9).min(dice.below(9));
     put_digits(dice, whole, text);
@@ -171,44 +64,64 @@ fn put_group(dice: &mut Dice, depth: usize, text: &mut Vec<u8>) {
     text.push(b')');
 }
 
-/// An expression, with a byte changed now and then.
+/// Groups nested 30 to 40 deep: each stands first, behind operators, or negated.
+fn put_deep_groups(dice: &mut Dice, text: &mut Vec<u8>) {
+    let depth = 30 + dice.below(11);
+    for _ in 0..depth {
+        text.extend_from_slice(dice.pick(&[b"", b"", b"-", b"- ", b"3+", b"2 *\t", b"1-8/"]));
+        text.push(b'(');
+        blanks(dice, text);
+    }
+    put_literal(dice, text);
+    for _ in 0..depth {
+        blanks(dice, text);
+        text.push(b')');
+    }
+}
+
+/// An expression, with deep groups or a changed byte now and then.
 fn made(dice: &mut Dice) -> Vec<u8> {
     let mut text = Vec::new();
-    put_expression(dice, 3, &mut text);
+    match dice.below(20) {
+        0 => put_deep_groups(dice, &mut text),
+        _ => put_expression(dice, 3, &mut text),
+    }
     if dice.below(8) == 0 {
         let place = dice.below(text.len());
-        text[place] = dice.pick(&[b" -+*/().,09\tE"])[dice.below(13)];
+        text[place] = dice.pick(&[b" -+*/().,09\tE\0"])[dice.below(14)];
     }
     text
 }
 
 /// The refusal's number, or 0.
-fn number(answer: Result<Evaluated, Refusal>) -> usize {
+fn number(answer: Answer) -> usize {
     answer.map_or_else(|refusal| refusal.number, |_| 0)
 }
 
 #[test]
-fn both_forms_answer_as_the_model_does() {
+fn both_engines_answer_as_the_model_does_in_both_forms() {
     let mut dice = Dice(0xD1B5_4A32_D192_ED03);
     let mut seen = BTreeMap::new();
     for _ in 0..MADE {
         let text = made(&mut dice);
         let shown = String::from_utf8_lossy(&text);
-        let (rounding, exactly) = (expression(&text), expression_exact(&text));
-        assert_eq!(rounding, modelled::<true>(&text), "{shown:?} rounding");
-        assert_eq!(exactly, modelled::<false>(&text), "{shown:?} exact");
-        if let Ok(found) = exactly {
-            let value = Fraction::new(found.value.into(), 1_000_000);
-            assert_eq!(exact::value(&text[..found.stop]), value, "{shown:?}");
-        }
-        let numbers = (number(rounding), number(exactly));
-        *seen.entry(numbers).or_insert(0) += 1;
+        let rounding = model::rounding_form(&text).unwrap();
+        assert_eq!(expression(&text), rounding, "{shown:?}");
+        assert_eq!(expression_stacked(&text), rounding, "{shown:?} stacked");
+        let exact = model::exact_form(&text).unwrap();
+        assert_eq!(expression_exact(&text), exact, "{shown:?} exact");
+        let stacked = expression_stacked_exact(&text);
+        assert_eq!(stacked, exact, "{shown:?} stacked, exact");
+        assert!(!exact.is_ok_and(|found| !model::is_exact(&text, found)));
+        *seen.entry((number(rounding), number(exact))).or_insert(0) += 1;
     }
     println!("numbers of both forms: {seen:?}");
     for numbers in [
         (0, 0),
         (0, 6),
         (0, 7),
+        (2, 2),
+        (3, 3),
         (6, 6),
         (6, 7),
         (7, 7),

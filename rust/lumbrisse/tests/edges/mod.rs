@@ -1,0 +1,30 @@
+//! Where the answers to expressions turn.
+
+/// Numbers at which ties, the limit or a refusal are near, and a product that is over the limit until it is rounded.
+pub const NUMBERS: [&[u8]; 25] = [
+    b"0",
+    b"1",
+    b"2",
+    b"3",
+    b"7",
+    b"8",
+    b"0.5",
+    b".25",
+    b"10",
+    b"0.000001",
+    b"0.000002",
+    b"0.000003",
+    b"0.0000001",
+    b"1.000001",
+    b"1.0000005",
+    b"1.500000000000",
+    b"1,000.5",
+    b"31622.776602",
+    b"500000000",
+    b"999,999,999.999999",
+    b"999999999.9999991",
+    b"999999000.000999",
+    b"999999000.000999*1.000001",
+    b"917431192.66055",
+    b"1000000000",
+];
