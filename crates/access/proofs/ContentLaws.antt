@@ -18,7 +18,7 @@ use Rattle.text.proofs.Steps.{drop-step, head-drop, such-within}
 use Rattle.text.proofs.TestLaws.{and-right}
 use Rattle.access.specs.Contents.{endsAt, valid, unescaped, escapedByte, contentAnswer, contentLeft}
 use Rattle.access.specs.steps.Measuring.{taken, slash, measuredOf}
-use Rattle.access.specs.declared.content.Content.{Content}
+use Rattle.access.specs.declared.written.Written.{Written}
 use Rattle.access.specs.declared.content.Measured.{Measured}
 
 -- a byte that is neither ordinary nor a quote
@@ -243,7 +243,7 @@ module _ (c t : List ℕ) (r : Measured) (p : r ≡ measuredOf c) where
       go true f = (refl, cc)
       go false f = (cc, cc)
 
-  pub bad-answer : r ≡ Measured.Bad → Content.Refusal 10 0 ≡ contentAnswer c (length t)
+  pub bad-answer : r ≡ Measured.Bad → Written.Refusal 10 0 ≡ contentAnswer c (length t)
   unfolding contentAnswer
   bad-answer q = rw (was-bad q)
 
@@ -252,7 +252,7 @@ module _ (c t : List ℕ) (r : Measured) (p : r ≡ measuredOf c) where
   bad-left q = rw (was-bad q)
 
   module _ (n : ℕ) (q : r ≡ Measured.Bytes n) where
-    pub short-answer : length t < n → Content.Refusal 9 n ≡ contentAnswer c (length t)
+    pub short-answer : length t < n → Written.Refusal 9 n ≡ contentAnswer c (length t)
     unfolding contentAnswer
     short-answer l = let w = was-bytes n q in rw (w .0, ← w .1, lt-leb n (length t) l)
 
@@ -263,7 +263,7 @@ module _ (c t : List ℕ) (r : Measured) (p : r ≡ measuredOf c) where
     pub room-there : n ≤ length t → length (unescaped c) ≤ length t
     room-there l = rw (← was-bytes n q .1) l
 
-    pub copied-answer : n ≤ length t → Content.Bytes n ≡ contentAnswer c (length t)
+    pub copied-answer : n ≤ length t → Written.Bytes n ≡ contentAnswer c (length t)
     unfolding contentAnswer
     copied-answer l = let w = was-bytes n q in rw (w .0, ← w .1, le-leb n (length t) l)
 

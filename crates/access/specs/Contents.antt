@@ -6,7 +6,7 @@ use lib.Dec.{eqb, leb}
 use lib.ListN.{length, drop}
 use Rattle.text.specs.Strings.{stringAt}
 use Rattle.text.specs.declared.Read.{Read}
-use Rattle.access.specs.declared.content.Content.{Content}
+use Rattle.access.specs.declared.written.Written.{Written}
 
 -- whether a reading ends there
 unfoldable pub endsAt : ℕ → Read → Bool
@@ -27,11 +27,11 @@ unfoldable mutual
   escapedByte (b ∷ c) = b ∷ unescaped c
 
 -- 10, then 9 with the need in bytes
-unfoldable pub contentAnswer : List ℕ → ℕ → Content
+unfoldable pub contentAnswer : List ℕ → ℕ → Written
 contentAnswer c room =
     cond (valid c)
-    (cond (leb (length (unescaped c)) room) (Content.Bytes (length (unescaped c))) (Content.Refusal 9 (length (unescaped c))))
-    (Content.Refusal 10 0)
+    (cond (leb (length (unescaped c)) room) (Written.Bytes (length (unescaped c))) (Written.Refusal 9 (length (unescaped c))))
+    (Written.Refusal 10 0)
 
 -- every byte of the buffer afterwards: a refusal leaves it as it was
 unfoldable pub contentLeft : List ℕ → List ℕ → List ℕ

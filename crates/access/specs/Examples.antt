@@ -18,7 +18,7 @@ use Rattle.amount.specs.Expression.{negatedValue, operated, combined, isPlus, i
 use Rattle.access.specs.Single.{valueAnswer, readAnswer, evaluated}
 use Rattle.access.specs.Contents.{endsAt, valid, unescaped, escapedByte, contentAnswer, contentLeft}
 use Rattle.access.specs.declared.single.Evaluated.{Evaluated}
-use Rattle.access.specs.declared.content.Content.{Content}
+use Rattle.access.specs.declared.written.Written.{Written}
 
 -- ---- single expressions: a text and its answer
 
@@ -77,13 +77,13 @@ abbrev buffer : List ℕ
 buffer = bytes "...."
 
 abbrev Filled : Type 0
-Filled = List ℕ × (Content × List ℕ)
+Filled = List ℕ × (Written × List ℕ)
 
 abbrev gives : String → ℕ → String → Filled
-gives c n t = (bytes c, (Content.Bytes n, bytes t))
+gives c n t = (bytes c, (Written.Bytes n, bytes t))
 
 abbrev bad : String → Filled
-bad c = (bytes c, (Content.Refusal 10 0, buffer))
+bad c = (bytes c, (Written.Refusal 10 0, buffer))
 
 unfoldable pub contents : List Filled
 contents =
@@ -94,9 +94,9 @@ contents =
     ∷ gives "a\\\\" 2 "a\\.."
     ∷ gives "abcd" 4 "abcd"
     ∷ gives "abc\\\"" 4 "abc\""
-    ∷ (0 ∷ [], (Content.Bytes 1, 0 ∷ bytes "..."))
-    ∷ (bytes "abcde", (Content.Refusal 9 5, buffer))
-    ∷ (bytes "a\\\"bcd", (Content.Refusal 9 5, buffer))
+    ∷ (0 ∷ [], (Written.Bytes 1, 0 ∷ bytes "..."))
+    ∷ (bytes "abcde", (Written.Refusal 9 5, buffer))
+    ∷ (bytes "a\\\"bcd", (Written.Refusal 9 5, buffer))
     ∷ bad "\""
     ∷ bad "a\"b"
     ∷ bad "\\\""

@@ -1,4 +1,5 @@
 // String content without its escapes.
+use crate::written::Written;
 use text::bytes;
 ghost use mathlib.Core.Path.{_≡_};
 ghost use Prim.Native.Nat.{_≤_};
@@ -6,12 +7,6 @@ ghost use lib.ListN.{length};
 ghost use lib.Seq.{sets};
 ghost use Rattle.access.specs.Contents.{unescaped, contentAnswer, contentLeft};
 ghost use Rattle.access.specs.steps.Measuring.{taken, slash, measuredOf};
-
-// So many bytes were written; or a refusal's number and the need.
-pub enum Content {
-    Bytes(usize),
-    Refusal(usize, usize),
-}
 
 enum Measured {
     Bytes(usize),
@@ -82,19 +77,19 @@ fn copied(content: &[u8], buffer: &mut [u8])
 }
 
 // 10 for content that is not valid, then 9 for a short buffer.
-pub fn unescape(content: &[u8], buffer: &mut [u8]) -> Content
+pub fn unescape(content: &[u8], buffer: &mut [u8]) -> Written
     ensures answer { λ r. ⌜ r ≡ contentAnswer (now (content .entry)) (length (now (buffer .entry))) ⌝ }
     ensures bytes { λ _. ⌜ now (buffer .exit) ≡ contentLeft (now (content .entry)) (now (buffer .entry)) ⌝ }
 {
     let m = measure(content);
     match m {
-        Measured::Bad => Content::Refusal(10, 0),
+        Measured::Bad => Written::Refusal(10, 0),
         Measured::Bytes(n) => {
             if buffer.len() < n {
-                return Content::Refusal(9, n);
+                return Written::Refusal(9, n);
             }
             copied(content, buffer);
-            Content::Bytes(n)
+            Written::Bytes(n)
         }
     }
 }

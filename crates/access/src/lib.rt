@@ -3,3 +3,4 @@ pub mod content;
 pub mod single;
 pub mod span;
 pub mod tables;
+pub mod written;

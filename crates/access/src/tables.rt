@@ -19,7 +19,7 @@ pub enum Force {
 }
 
 // The row with a number, each field from its bytes.
-fn row_of(t: &[u8], k: usize) -> Row
+pub fn row_of(t: &[u8], k: usize) -> Row
     requires { ⌜ k * 32 + 32 ≤ length (now t) ⌝ }
     ensures { λ r. ⌜ r ≡ rowAt (now (t .entry)) k ⌝ }
 {

@@ -7,14 +7,16 @@ use Rattle.decimal.specs.Exact.{wholeOf, twosOf}
 use Rattle.decimal.specs.declared.Decimal.{Decimal}
 use Rattle.ledger.specs.declared.read.Answer.{Answer}
 use Rattle.access.specs.Spans.{goodSpan}
-use Rattle.access.specs.declared.content.Content.{Content}
+use Rattle.access.specs.declared.written.Written.{Written}
 use Rattle.access.specs.declared.single.Evaluated as single
 use Rattle.access.specs.declared.tables.Force.{Force}
+use Rattle.bus.specs.declared.packet.Step.{Step}
 use Rattle.access.proofs.SpanLaws.{good-start, text-good, text-bad}
 use Rattle.lumbrisse.specs.declared.reply.Reply.{Reply}
 use Rattle.lumbrisse.specs.declared.reply.Evaluated.{Evaluated}
+use Rattle.lumbrisse.specs.declared.reply.Handed.{Handed}
 use Rattle.lumbrisse.specs.declared.reply.Part.{Part}
-use Rattle.lumbrisse.specs.Numbers.{replied, replyOf, contentReply, forceReply, evaluatedOf, partOf}
+use Rattle.lumbrisse.specs.Numbers.{replied, replyOf, writtenReply, forceReply, evaluatedOf, partOf, handedBy, handedOf}
 
 module _ (r : Reply) where
   module _ (a : Answer) where
@@ -26,13 +28,13 @@ module _ (r : Reply) where
     unfolding replyOf
     refusal-reply n p k e w = rw e w
 
-  module _ (a : Content) where
-    pub bytes-reply : (n : ℕ) → a ≡ Content.Bytes n → r ≡ replied 0 0 n → r ≡ contentReply a
-    unfolding contentReply
+  module _ (a : Written) where
+    pub bytes-reply : (n : ℕ) → a ≡ Written.Bytes n → r ≡ replied 0 0 n → r ≡ writtenReply a
+    unfolding writtenReply
     bytes-reply n e w = rw e w
 
-    pub need-reply : (n k : ℕ) → a ≡ Content.Refusal n k → r ≡ replied n 0 k → r ≡ contentReply a
-    unfolding contentReply
+    pub need-reply : (n k : ℕ) → a ≡ Written.Refusal n k → r ≡ replied n 0 k → r ≡ writtenReply a
+    unfolding writtenReply
     need-reply n k e w = rw e w
 
   module _ (a : Force) where
@@ -56,6 +58,25 @@ module _ (a : single.Evaluated) where
   pub refused-numbers : (n p : ℕ) → a ≡ single.Evaluated.Refusal n p → record { number = n; place = p; bits = 0 } ≡ evaluatedOf a
   unfolding evaluatedOf
   refused-numbers n p e = rw e
+
+module _ (at : ℕ) (x : Step) (r : Handed) where
+  pub entry-handed : (next : ℕ) → x ≡ Step.Entry next → r ≡ handedBy 0 next 1 0 → r ≡ handedOf at x
+  unfolding handedOf
+  entry-handed next e w = rw e w
+
+  pub detail-handed : (next n : ℕ) → x ≡ Step.Detail next n → r ≡ handedBy 0 next 2 n → r ≡ handedOf at x
+  unfolding handedOf
+  detail-handed next n e w = rw e w
+
+  pub end-handed : x ≡ Step.End → r ≡ handedBy 0 at 0 0 → r ≡ handedOf at x
+  unfolding handedOf
+  end-handed e w = rw e w
+
+  pub refusal-handed : (n p need : ℕ) → x ≡ Step.Refusal n p need → r ≡ handedBy n p 0 need → r ≡ handedOf at x
+  unfolding handedOf
+  refusal-handed n p need e w = rw e w
+
+pub ruleset handed-laws = (entry-handed, detail-handed, end-handed, refusal-handed)
 
 pub ruleset number-laws = (rows-reply, refusal-reply, bytes-reply, need-reply, yes-reply, not-reply, bad-reply, read-numbers, refused-numbers)
 

@@ -12,11 +12,14 @@ use Rattle.access.specs.Single.{evaluated}
 use Rattle.access.specs.Contents.{contentAnswer, contentLeft}
 use Rattle.access.specs.Spans.{goodSpan, spanText}
 use Rattle.access.specs.Tables.{inForce}
+use Rattle.bus.specs.Writing.{written, writtenLeft}
+use Rattle.bus.specs.Reading.{rowLeft, textLeft, stepAt}
 use Rattle.lumbrisse.specs.declared.reply.Reply.{Reply}
 use Rattle.lumbrisse.specs.declared.reply.Evaluated.{Evaluated}
+use Rattle.lumbrisse.specs.declared.reply.Handed.{Handed}
 use Rattle.lumbrisse.specs.declared.reply.Part.{Part}
-use Rattle.lumbrisse.specs.Numbers.{replyOf, contentReply, forceReply, evaluatedOf, partOf}
-use Rattle.lumbrisse.specs.Promises.{TablePromise, ContentPromise, ExpressionPromise, TagPromise, SpanPromise}
+use Rattle.lumbrisse.specs.Numbers.{replyOf, writtenReply, forceReply, evaluatedOf, partOf, handedOf}
+use Rattle.lumbrisse.specs.Promises.{TablePromise, ContentPromise, ExpressionPromise, TagPromise, SpanPromise, PacketPromise, StepPromise}
 
 -- both are what is defined
 pub same-defined : {A : Type 0} {x r q : A} → r ≡ x → q ≡ x → r ≡ q
@@ -39,13 +42,19 @@ tag-unique s t k tag a b = same-defined a b
 pub span-unique : {s : List ℕ} {a e : ℕ} {r q : Part} → SpanPromise s a e r → SpanPromise s a e q → r ≡ q
 span-unique a b = same-defined (a .part) (b .part)
 
+pub packet-unique : {s t b u v : List ℕ} {k : ℕ} {r q : Reply} → PacketPromise s t k b r u → PacketPromise s t k b q v → (r ≡ q) × (u ≡ v)
+packet-unique a b = (same-defined (a .reply) (b .reply), same-defined (a .bytes) (b .bytes))
+
+pub step-unique : {p b c u v x y : List ℕ} {at : ℕ} {r q : Handed} → StepPromise p at b c r u v → StepPromise p at b c q x y → (r ≡ q) × ((u ≡ x) × (v ≡ y))
+step-unique a b = (same-defined (a .answer) (b .answer), (same-defined (a .row) (b .row), same-defined (a .text) (b .text)))
+
 -- ---- an answer to every call
 
 pub table-total : (x : Reading) (t : List ℕ) → (r : Reply) × ((u : List ℕ) × TablePromise x t r u)
 table-total x t = (replyOf (answer x (length t / width)), (left x t, record { reply = refl; rows = refl }))
 
 pub content-total : (c t : List ℕ) → (r : Reply) × ((u : List ℕ) × ContentPromise c t r u)
-content-total c t = (contentReply (contentAnswer c (length t)), (contentLeft c t, record { reply = refl; bytes = refl }))
+content-total c t = (writtenReply (contentAnswer c (length t)), (contentLeft c t, record { reply = refl; bytes = refl }))
 
 pub expression-total : (form : Form) (s : List ℕ) → (r : Evaluated) × ExpressionPromise form s r
 expression-total form s = (evaluatedOf (evaluated form s), refl)
@@ -61,3 +70,11 @@ part-text s a e false g = rw g
 
 pub span-total : (s : List ℕ) (a e : ℕ) → (r : Part) × SpanPromise s a e r
 span-total s a e = (partOf s a e, record { part = refl; text = part-text s a e (goodSpan s a e) refl })
+
+pub packet-total : (s t : List ℕ) (k : ℕ) (b : List ℕ) → (r : Reply) × ((u : List ℕ) × PacketPromise s t k b r u)
+packet-total s t k b = (writtenReply (written s k t (length b)), (writtenLeft s k t b, record { reply = refl; bytes = refl }))
+
+pub step-total : (p : List ℕ) (at : ℕ) (b c : List ℕ) → (r : Handed) × ((u : List ℕ) × ((v : List ℕ) × StepPromise p at b c r u v))
+step-total p at b c =
+    let x = stepAt p at b c in
+    (handedOf at x, (rowLeft x (drop at p) b, (textLeft x (drop at p) c, record { answer = refl; row = refl; text = refl })))

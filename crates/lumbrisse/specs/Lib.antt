@@ -1,5 +1,6 @@
 pub mod Numbers
 pub mod Promises
+pub mod Packets
 pub mod Asked
 pub mod Edges
 pub mod Roundings

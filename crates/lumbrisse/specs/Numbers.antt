@@ -5,11 +5,14 @@ use mathlib.Core.List.{List}
 use Rattle.decimal.specs.Exact.{wholeOf, twosOf}
 use Rattle.ledger.specs.declared.read.Answer.{Answer}
 use Rattle.access.specs.Spans.{goodSpan}
-use Rattle.access.specs.declared.content.Content.{Content}
+use Rattle.access.specs.declared.written.Written.{Written}
 use Rattle.access.specs.declared.single.Evaluated as single
 use Rattle.access.specs.declared.tables.Force.{Force}
+use Rattle.bus.specs.Fields.{entryTag, detailTag}
+use Rattle.bus.specs.declared.packet.Step.{Step}
 use Rattle.lumbrisse.specs.declared.reply.Reply.{Reply}
 use Rattle.lumbrisse.specs.declared.reply.Evaluated.{Evaluated}
+use Rattle.lumbrisse.specs.declared.reply.Handed.{Handed}
 use Rattle.lumbrisse.specs.declared.reply.Part.{Part}
 
 abbrev pub replied : ℕ → ℕ → ℕ → Reply
@@ -20,10 +23,10 @@ unfoldable pub replyOf : Answer → Reply
 replyOf (Answer.Rows n) = replied 0 0 n
 replyOf (Answer.Refusal n p c) = replied n p c
 
--- string content: how many bytes, or number and need; the place of 9 and 10 is 0
-unfoldable pub contentReply : Content → Reply
-contentReply (Content.Bytes n) = replied 0 0 n
-contentReply (Content.Refusal n need) = replied n 0 need
+-- bytes written, of string content or of a packet: how many, or number and need; the place of 9, 10 and 18 is 0
+unfoldable pub writtenReply : Written → Reply
+writtenReply (Written.Bytes n) = replied 0 0 n
+writtenReply (Written.Refusal n need) = replied n 0 need
 
 -- a tag in force: 1 or 0
 unfoldable pub forceReply : Force → Reply
@@ -39,3 +42,14 @@ evaluatedOf (single.Evaluated.Refusal n p) = record { number = n; place = p; bit
 -- a span: where its text starts in the ledger, and its length; empty, at 0, for a bad span
 unfoldable pub partOf : List ℕ → ℕ → ℕ → Part
 partOf s a e = cond (goodSpan s a e) (record { start = a; length = e - a }) (record { start = 0; length = 0 })
+
+abbrev pub handedBy : ℕ → ℕ → ℕ → ℕ → Handed
+handedBy n p t c = record { number = n; place = p; tag = t; count = c }
+
+-- a step of a packet's reader that stood at a place: the place behind what it handed out, the row's tag and the text's
+-- length; at the packet's end its own place and no tag; or number, place and need of a refusal
+unfoldable pub handedOf : ℕ → Step → Handed
+handedOf at (Step.Entry next) = handedBy 0 next entryTag 0
+handedOf at (Step.Detail next n) = handedBy 0 next detailTag n
+handedOf at Step.End = handedBy 0 at 0 0
+handedOf at (Step.Refusal n p need) = handedBy n p 0 need

@@ -11,10 +11,13 @@ use Rattle.access.specs.Single.{evaluated}
 use Rattle.access.specs.Contents.{contentAnswer, contentLeft}
 use Rattle.access.specs.Tables.{inForce}
 use Rattle.access.specs.Spans.{spanText}
+use Rattle.bus.specs.Writing.{written, writtenLeft}
+use Rattle.bus.specs.Reading.{rowLeft, textLeft, stepAt}
 use Rattle.lumbrisse.specs.declared.reply.Reply.{Reply}
 use Rattle.lumbrisse.specs.declared.reply.Evaluated.{Evaluated}
+use Rattle.lumbrisse.specs.declared.reply.Handed.{Handed}
 use Rattle.lumbrisse.specs.declared.reply.Part.{Part}
-use Rattle.lumbrisse.specs.Numbers.{replyOf, contentReply, forceReply, evaluatedOf, partOf}
+use Rattle.lumbrisse.specs.Numbers.{replyOf, writtenReply, forceReply, evaluatedOf, partOf, handedOf}
 
 -- a reading of a ledger into a table t
 pub record TablePromise (reading : Reading) (t : List ℕ) (r : Reply) (u : List ℕ) : Type 0 where
@@ -23,7 +26,7 @@ pub record TablePromise (reading : Reading) (t : List ℕ) (r : Reply) (u : List
 
 -- content c into a buffer t
 pub record ContentPromise (c t : List ℕ) (r : Reply) (u : List ℕ) : Type 0 where
-  pub reply : r ≡ contentReply (contentAnswer c (length t))
+  pub reply : r ≡ writtenReply (contentAnswer c (length t))
   pub bytes : u ≡ contentLeft c t
 
 -- the expression at a text's start, in a form
@@ -37,3 +40,14 @@ TagPromise s t k tag r = r ≡ forceReply (inForce s t k tag)
 pub record SpanPromise (s : List ℕ) (a e : ℕ) (r : Part) : Type 0 where
   pub part : r ≡ partOf s a e
   pub text : take (r .length) (drop (r .start) s) ≡ spanText s a e
+
+-- the packet of the first k rows of a table t, with the texts of a ledger s, into a buffer b
+pub record PacketPromise (s t : List ℕ) (k : ℕ) (b : List ℕ) (r : Reply) (u : List ℕ) : Type 0 where
+  pub reply : r ≡ writtenReply (written s k t (length b))
+  pub bytes : u ≡ writtenLeft s k t b
+
+-- one step of a reader that stands at a place of a packet p, with a buffer b for the row and c for the text
+pub record StepPromise (p : List ℕ) (at : ℕ) (b c : List ℕ) (r : Handed) (b′ c′ : List ℕ) : Type 0 where
+  pub answer : r ≡ handedOf at (stepAt p at b c)
+  pub row : b′ ≡ rowLeft (stepAt p at b c) (drop at p) b
+  pub text : c′ ≡ textLeft (stepAt p at b c) (drop at p) c

@@ -5,15 +5,18 @@ pub mod reply;
 use access::single;
 use access::span;
 use access::tables;
+use bus::reader;
+use bus::writer;
 use decimal::Form;
 use ledger::read;
 use recovery::recover;
 use reply::Evaluated;
+use reply::Handed;
 use reply::Part;
 use reply::Reply;
 ghost use Rattle.ledger.specs.Plain.{plain};
 ghost use Rattle.recovery.specs.Recovering.{recovered};
-ghost use Rattle.lumbrisse.specs.Promises.{TablePromise, ContentPromise, ExpressionPromise, TagPromise, SpanPromise};
+ghost use Rattle.lumbrisse.specs.Promises.{TablePromise, ContentPromise, ExpressionPromise, TagPromise, SpanPromise, PacketPromise, StepPromise};
 
 // Plain reading: the rows' count, or a refusal.
 #[no_mangle]
@@ -77,7 +80,7 @@ pub extern "C" fn lumbrisse_content(content: &[u8], buffer: &mut [u8]) -> Reply
     ensures { λ r. ⌜ ContentPromise (now (content .entry)) (now (buffer .entry)) r (now (buffer .exit)) ⌝ }
 {
     let a = access::content::unescape(content, buffer);
-    reply::content_reply(a)
+    reply::written_reply(a)
 }
 
 // Whether a tag is in force after the first k rows: count 1 or 0, or a refusal.
@@ -104,4 +107,32 @@ pub extern "C" fn lumbrisse_span(ledger: &[u8], start: usize, end: usize) -> Par
         start: 0,
         length: 0,
     }
+}
+
+// The packet of a table's first k rows, with the texts of a ledger (M-112): how many bytes it has, or a refusal.
+#[no_mangle]
+pub extern "C" fn lumbrisse_packet_write(
+    ledger: &[u8],
+    table: &[u8],
+    k: usize,
+    packet: &mut [u8],
+) -> Reply
+    ensures { λ r. ⌜ PacketPromise (now (ledger .entry)) (now (table .entry)) k (now (packet .entry)) r (now (packet .exit)) ⌝ }
+{
+    let a = writer::write(ledger, table, k, packet);
+    reply::written_reply(a)
+}
+
+// One step of a reader that stands at a place of a packet: a row, and the text of a detail, or a refusal.
+#[no_mangle]
+pub extern "C" fn lumbrisse_packet_next(
+    packet: &[u8],
+    at: usize,
+    row: &mut [u8],
+    text: &mut [u8],
+) -> Handed
+    ensures { λ r. ⌜ StepPromise (now (packet .entry)) at (now (row .entry)) (now (text .entry)) r (now (row .exit)) (now (text .exit)) ⌝ }
+{
+    let x = reader::read_at(packet, at, row, text);
+    reply::handed_of(x, at)
 }

@@ -1,10 +1,11 @@
 // Answers as document 01's numbers. An export gives back numbers by value: a struct for each form of answer.
-use access::content::Content;
 use access::single;
 use access::tables::Force;
+use access::written::Written;
+use bus::packet::Step;
 use ledger::read::Answer;
 ghost use mathlib.Core.Path.{_≡_};
-ghost use Rattle.lumbrisse.specs.Numbers.{replied, replyOf, contentReply, forceReply, evaluatedOf};
+ghost use Rattle.lumbrisse.specs.Numbers.{replied, replyOf, writtenReply, forceReply, evaluatedOf, handedBy, handedOf};
 
 // Number 0: accepted. What an answer has not is 0.
 #[repr(C)]
@@ -20,6 +21,23 @@ pub struct Evaluated {
     pub number: usize,
     pub place: usize,
     pub bits: u64,
+}
+
+// What a step of a packet's reader hands out: the tag of the row's field.
+const ENTRY: usize = 1;
+
+const DETAIL: usize = 2;
+
+const NOTHING: usize = 0;
+
+// One step of a packet's reader. Accepted: the place behind what was handed out, an entry's row, a detail's row with a
+// text of `count` bytes, or, at the packet's end, nothing.
+#[repr(C)]
+pub struct Handed {
+    pub number: usize,
+    pub place: usize,
+    pub tag: usize,
+    pub count: usize,
 }
 
 // A part of the caller's own ledger.
@@ -52,12 +70,12 @@ pub fn reply_of(a: Answer) -> Reply
     }
 }
 
-pub fn content_reply(a: Content) -> Reply
-    ensures { λ r. ⌜ r ≡ contentReply a ⌝ }
+pub fn written_reply(a: Written) -> Reply
+    ensures { λ r. ⌜ r ≡ writtenReply a ⌝ }
 {
     match a {
-        Content::Bytes(count) => replied(0, 0, count),
-        Content::Refusal(number, need) => replied(number, 0, need),
+        Written::Bytes(count) => replied(0, 0, count),
+        Written::Refusal(number, need) => replied(number, 0, need),
     }
 }
 
@@ -85,5 +103,28 @@ pub fn evaluated_of(a: single::Evaluated) -> Evaluated
             place,
             bits: 0,
         },
+    }
+}
+
+fn handed_by(number: usize, place: usize, tag: usize, count: usize) -> Handed
+    ensures { λ r. ⌜ r ≡ handedBy number place tag count ⌝ }
+{
+    Handed {
+        number,
+        place,
+        tag,
+        count,
+    }
+}
+
+// Of a reader that stood at a place.
+pub fn handed_of(x: Step, at: usize) -> Handed
+    ensures { λ r. ⌜ r ≡ handedOf at x ⌝ }
+{
+    match x {
+        Step::Entry(next) => handed_by(0, next, ENTRY, 0),
+        Step::Detail(next, count) => handed_by(0, next, DETAIL, count),
+        Step::End => handed_by(0, at, NOTHING, 0),
+        Step::Refusal(number, place, need) => handed_by(number, place, NOTHING, need),
     }
 }

@@ -24,7 +24,11 @@ pub second-cut : (v : Verdict) (c : Case) (must : Reply) (s u t after : List ℕ
     → v ≡ verdict c must s (take (n + m - n) u) t after → v ≡ verdict c must s (take m u) t after
 second-cut v c must s u t after n m e = let k : n + m - n ≡ m = omega arith in rw k at e
 
-pub ruleset body-laws = (front-counts, first-counts, second-cut)
+-- a spare buffer has room for what is lent
+pub spare-holds : (n : ℕ) (xs ys : List ℕ) → n ≤ length xs → n ≤ length ys → length (take n xs) ≤ length ys
+spare-holds n xs ys h l = rw (length-take-le n xs h) l
+
+pub ruleset body-laws = (front-counts, first-counts, second-cut, spare-holds)
 
 -- what the header's limit says
 pub within-limit : (n m t : ℕ) (r : Bool) → r ≡ leb (56 + n + m + t + t) 65536 → r ≡ true → 56 + n + m + t + t ≤ 65536

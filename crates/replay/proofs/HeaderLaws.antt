@@ -1,11 +1,11 @@
 -- The header's numbers, and its limit.
 use Prim.Native.Nat.{ℕ, _+_, _<_}
 use native.Mathlib.Omega.{arith}
-use mathlib.Core.Path.{_≡_, sym}
-use mathlib.Core.Bool.{false}
+use mathlib.Core.Path.{_≡_, sym, _∙_}
+use mathlib.Core.Bool.{false, cond}
 use mathlib.Core.List.{List}
-use borrow.Author.Tests.{lt-leb}
-use lib.Dec.{leb}
+use borrow.Author.Tests.{lt-leb, ne-eqb}
+use lib.Dec.{eqb, leb}
 use Rattle.row.specs.Field.{fieldAt}
 use Rattle.replay.specs.Cases.{caseOf, mustOf}
 
@@ -17,13 +17,20 @@ module _ (h : List ℕ) where
   unfolding caseOf
   case-read ek ea eb en em et = rw (ek, ea, eb, en, em, et)
 
-  pub must-read : {n p c v : ℕ}
-      → n ≡ fieldAt h 32 4 → p ≡ fieldAt h 36 4 → c ≡ fieldAt h 40 4 → v ≡ fieldAt h 48 8
-      → record { number = n; place = p; count = c; value = v } ≡ mustOf h
+  pub must-read : {n p c v g : ℕ}
+      → n ≡ fieldAt h 32 4 → p ≡ fieldAt h 36 4 → c ≡ fieldAt h 40 4 → v ≡ fieldAt h 48 8 → g ≡ cond (eqb (fieldAt h 0 4) 16) (fieldAt h 12 4) 0
+      → record { number = n; place = p; count = c; value = v; tag = g } ≡ mustOf h
   unfolding mustOf
-  must-read en ep ec ev = rw (en, ep, ec, ev)
+  must-read en ep ec ev eg = rw (en, ep, ec, ev, eg)
 
-pub ruleset header-laws = (case-read, must-read)
+  module _ (k : ℕ) (e : k ≡ fieldAt h 0 4) where
+    pub tag-step : k ≡ 16 → (g : ℕ) → g ≡ fieldAt h 12 4 → g ≡ cond (eqb (fieldAt h 0 4) 16) (fieldAt h 12 4) 0
+    tag-step z g eg = eg ∙ rw (← e, z)
+
+    pub tag-none : (k ≡ 16 → ⊥) → 0 ≡ cond (eqb (fieldAt h 0 4) 16) (fieldAt h 12 4) 0
+    tag-none z = rw (← e, ne-eqb k 16 z)
+
+pub ruleset header-laws = (case-read, must-read, tag-step, tag-none)
 
 -- one part over the limit is too much
 module _ (n m t : ℕ) where

@@ -1,9 +1,15 @@
--- A case: a header of 56 bytes, the first text (ledger, expression or content), the second (6: the tag; 5: the text that is expected), the
--- lent buffer before the call (1: row table; 4: output; 6: the row table that is read) and as it must be after it. The header has numbers
--- of four bytes: the call, a, b, two that no call takes, the bytes of the first text, of the second and of the buffer, then what must be
--- answered: number (0: accepted), place, count and one that is 0; last the value, of eight bytes.
+-- A case: a header of 56 bytes, the first text (ledger, expression, content or packet), the second (6: the tag; 5: the
+-- text that is expected; 15: the row table that is read), the lent buffer before the call (1, 2: row table; 4: output;
+-- 6: the row table that is read; 15: the packet; 16: the row's buffer, b bytes, and the text's behind it) and as it
+-- must be after it. The header has numbers of four bytes: the call, a, b, c and one that no call takes, the bytes of
+-- the first text, of the second and of the buffer, then what must be answered: number (0: accepted), place, count and
+-- one that is 0; last the value, of eight bytes.
 -- Calls: 1 plain reading, 2 recovering reading, 3 single expression, 4 string content, 5 text of a span from a to b, 6
--- tag in force after a rows, 9 single expression in the exact form (M-106; 3 rounds).
+-- tag in force after a rows, 9 single expression in the exact form (M-106; 3 rounds), 12 and 13 these two by the
+-- second engine (M-113), 15 the packet of a rows, 16 one step of a packet's reader that stands at a; c is what it must
+-- hand out: 0 nothing, 1 an entry's row, 2 a detail's row with its text (M-112).
+use mathlib.Core.Bool.{cond}
+use lib.Dec.{eqb}
 use mathlib.Core.List.{List}
 use Prim.Native.Nat.{ℕ}
 use Rattle.row.specs.Field.{fieldAt}
@@ -28,4 +34,5 @@ mustOf h =
       place = fieldAt h 36 4;
       count = fieldAt h 40 4;
       value = fieldAt h 48 8;
+      tag = cond (eqb (fieldAt h 0 4) 16) (fieldAt h 12 4) 0;
     }

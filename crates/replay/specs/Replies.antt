@@ -1,9 +1,9 @@
 -- What each call answers, as the four numbers of a case, and every byte of the lent buffer afterwards.
 use Prim.Native.Nat.{ℕ, _/_}
 use mathlib.Core.Bool.{Bool, cond, _||_}
-use mathlib.Core.List.{List}
-use lib.Dec.{eqb}
-use lib.ListN.{length}
+use mathlib.Core.List.{List, _++_}
+use lib.Dec.{eqb, leb}
+use lib.ListN.{length, take, drop}
 use Rattle.ledger.specs.Plain.{plain}
 use Rattle.ledger.specs.Answers.{answer, left}
 use Rattle.recovery.specs.Recovering.{recovered}
@@ -11,21 +11,40 @@ use Rattle.decimal.specs.declared.Form.the-variants.{Exact, Rounding}
 use Rattle.access.specs.Single.{evaluated}
 use Rattle.access.specs.Contents.{contentAnswer, contentLeft}
 use Rattle.access.specs.Tables.{inForce}
-use Rattle.lumbrisse.specs.Numbers.{replyOf, contentReply, forceReply, evaluatedOf, partOf}
+use Rattle.bus.specs.declared.packet.Step.{Step}
+use Rattle.bus.specs.Reading.{rowLeft, textLeft, stepAt}
+use Rattle.bus.specs.Writing.{written, writtenLeft}
+use Rattle.lumbrisse.specs.Numbers.{replyOf, writtenReply, forceReply, evaluatedOf, partOf, handedOf}
 use Rattle.lumbrisse.specs.declared.reply as box
 use Rattle.replay.specs.declared.call.Reply.{Reply}
 use Rattle.replay.specs.declared.call.Outcome.{Outcome}
 
 -- the numbers of an export's answer: number, place, count and value
 abbrev pub ofReply : box.Reply.Reply → Reply
-ofReply r = record { number = r .number; place = r .place; count = r .count; value = 0 }
+ofReply r = record { number = r .number; place = r .place; count = r .count; value = 0; tag = 0 }
 
 abbrev pub ofEvaluated : box.Evaluated.Evaluated → Reply
-ofEvaluated e = record { number = e .number; place = e .place; count = 0; value = e .bits }
+ofEvaluated e = record { number = e .number; place = e .place; count = 0; value = e .bits; tag = 0 }
 
 -- where the part starts, and its length
 abbrev pub ofPart : box.Part.Part → Reply
-ofPart p = record { number = 0; place = p .start; count = p .length; value = 0 }
+ofPart p = record { number = 0; place = p .start; count = p .length; value = 0; tag = 0 }
+
+-- a step of a packet's reader, with what it handed out
+abbrev pub ofHanded : box.Handed.Handed → Reply
+ofHanded h = record { number = h .number; place = h .place; count = h .count; value = 0; tag = h .tag }
+
+-- that step: the reader stands at a, and its two buffers stand one behind the other, the row's with b bytes
+abbrev pub stepOf : ℕ → ℕ → List ℕ → List ℕ → Step
+stepOf a b s t = stepAt s a (take b t) (drop b t)
+
+-- a case whose row's buffer is longer than both is none
+abbrev pub stepped : ℕ → ℕ → List ℕ → List ℕ → Outcome
+stepped a b s t = cond (leb b (length t)) (Outcome.Answered (ofHanded (handedOf a (stepOf a b s t)))) Outcome.Unknown
+
+abbrev pub steppedLeft : ℕ → ℕ → List ℕ → List ℕ → List ℕ
+steppedLeft a b s t =
+    cond (leb b (length t)) (rowLeft (stepOf a b s t) (drop a s) (take b t) ++ textLeft (stepOf a b s t) (drop a s) (drop b t)) t
 
 -- the calls of a single expression by their form; 12 and 13 are the second engine's (M-113), which answers as the first
 abbrev pub isRounding : ℕ → Bool
@@ -41,14 +60,20 @@ outcome k a b s u t =
     let recovering = Outcome.Answered (ofReply (replyOf (answer (recovered s) (length t / 32)))) in
     let single = Outcome.Answered (ofEvaluated (evaluatedOf (evaluated Rounding s))) in
     let singleExact = Outcome.Answered (ofEvaluated (evaluatedOf (evaluated Exact s))) in
-    let content = Outcome.Answered (ofReply (contentReply (contentAnswer s (length t)))) in
+    let content = Outcome.Answered (ofReply (writtenReply (contentAnswer s (length t)))) in
     let part = Outcome.Answered (ofPart (partOf s a b)) in
     let force = Outcome.Answered (ofReply (forceReply (inForce s t a u))) in
+    let packet = Outcome.Answered (ofReply (writtenReply (written s a u (length t)))) in
     cond (isRounding k) single
     (cond (isExact k) singleExact
     (cond (eqb k 1) plainly
-    (cond (eqb k 2) recovering (cond (eqb k 4) content (cond (eqb k 5) part (cond (eqb k 6) force Outcome.Unknown))))))
+    (cond (eqb k 2) recovering
+    (cond (eqb k 4) content
+    (cond (eqb k 5) part (cond (eqb k 6) force (cond (eqb k 15) packet (cond (eqb k 16) (stepped a b s t) Outcome.Unknown))))))))
 
--- the lent buffer afterwards: both readings and string content write
-unfoldable pub leftBy : ℕ → List ℕ → List ℕ → List ℕ
-leftBy k s t = cond (eqb k 1) (left (plain s) t) (cond (eqb k 2) (left (recovered s) t) (cond (eqb k 4) (contentLeft s t) t))
+-- the lent buffer afterwards: both readings, string content, a packet and a step of its reader write
+unfoldable pub leftBy : ℕ → ℕ → ℕ → List ℕ → List ℕ → List ℕ → List ℕ
+leftBy k a b s u t =
+    cond (eqb k 1) (left (plain s) t)
+    (cond (eqb k 2) (left (recovered s) t)
+    (cond (eqb k 4) (contentLeft s t) (cond (eqb k 15) (writtenLeft s a u t) (cond (eqb k 16) (steppedLeft a b s t) t))))

@@ -20,12 +20,13 @@ alike r must text buffer =
       place = eqb (r .place) (must .place);
       count = eqb (r .count) (must .count);
       value = eqb (r .value) (must .value);
+      tag = eqb (r .tag) (must .tag);
       text = text;
       buffer = buffer;
     }
 
 abbrev pub allAlike : Alike → Bool
-allAlike a = a .number && a .place && a .count && a .value && a .text && a .buffer
+allAlike a = a .number && a .place && a .count && a .value && a .tag && a .text && a .buffer
 
 unfoldable pub compared : Outcome → Reply → Bool → Bool → Verdict
 compared (Outcome.Answered r) must text buffer = Verdict.Compared (alike r must text buffer)
@@ -38,4 +39,4 @@ textSame c s u = cond (eqb (c .call) 5) (same (spanText s (c .a) (c .b)) u) true
 -- of a case with two texts and a lent buffer before and after the call
 unfoldable pub verdict : Case → Reply → List ℕ → List ℕ → List ℕ → List ℕ → Verdict
 verdict c must s u t after =
-    compared (outcome (c .call) (c .a) (c .b) s u t) must (textSame c s u) (same (leftBy (c .call) s t) after)
+    compared (outcome (c .call) (c .a) (c .b) s u t) must (textSame c s u) (same (leftBy (c .call) (c .a) (c .b) s u t) after)

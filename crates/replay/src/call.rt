@@ -1,6 +1,9 @@
 // The calls that a box makes, each with its answer as four numbers.
+use crate::display;
 use lumbrisse::reply;
 ghost use mathlib.Core.Path.{_≡_};
+ghost use Prim.Native.Nat.{_≤_};
+ghost use lib.ListN.{length};
 ghost use Rattle.replay.specs.declared.call.Outcome.{Outcome};
 ghost use Rattle.replay.specs.Replies.{ofReply, ofEvaluated, ofPart, outcome, leftBy};
 
@@ -22,6 +25,10 @@ pub const STACKED: usize = 12;
 
 pub const STACKED_EXACT: usize = 13;
 
+pub const PACKET: usize = 15;
+
+pub const STEP: usize = 16;
+
 // Number 0: accepted. What an answer has not is 0.
 pub struct Reply {
     pub number: usize,
@@ -29,6 +36,8 @@ pub struct Reply {
     pub count: usize,
     // Two's complement.
     pub value: usize,
+    // What a step of a packet's reader handed out.
+    pub tag: usize,
 }
 
 pub enum Outcome {
@@ -44,6 +53,7 @@ fn of_reply(r: reply::Reply) -> Outcome
         place: r.place,
         count: r.count,
         value: 0,
+        tag: 0,
     })
 }
 
@@ -61,6 +71,7 @@ fn of_evaluated(e: reply::Evaluated) -> Outcome
         place: e.place,
         count: 0,
         value: wide(e.bits),
+        tag: 0,
     })
 }
 
@@ -72,10 +83,11 @@ fn of_part(p: reply::Part) -> Outcome
         place: p.start,
         count: p.length,
         value: 0,
+        tag: 0,
     })
 }
 
-// The call with a number.
+// The call with a number. A step of a packet's reader takes two buffers, and has `spare` for one of them.
 pub fn made(
     call: usize,
     a: usize,
@@ -83,9 +95,11 @@ pub fn made(
     first: &[u8],
     second: &[u8],
     lent: &mut [u8],
+    spare: &mut [u8],
 ) -> Outcome
+    requires { ⌜ length (now lent) ≤ length (now spare) ⌝ }
     ensures answer { λ r. ⌜ r ≡ outcome call a b (now (first .entry)) (now (second .entry)) (now (lent .entry)) ⌝ }
-    ensures bytes { λ _. ⌜ now (lent .exit) ≡ leftBy call (now (first .entry)) (now (lent .entry)) ⌝ }
+    ensures bytes { λ _. ⌜ now (lent .exit) ≡ leftBy call a b (now (first .entry)) (now (second .entry)) (now (lent .entry)) ⌝ }
 {
     match call {
         PLAIN => of_reply(lumbrisse::lumbrisse_read(first, lent)),
@@ -97,6 +111,8 @@ pub fn made(
         SINGLE_EXACT => of_evaluated(lumbrisse::lumbrisse_expression_exact(first)),
         STACKED => of_evaluated(lumbrisse::lumbrisse_expression_stacked(first)),
         STACKED_EXACT => of_evaluated(lumbrisse::lumbrisse_expression_stacked_exact(first)),
+        PACKET => of_reply(lumbrisse::lumbrisse_packet_write(first, second, a, lent)),
+        STEP => display::stepped(first, a, b, lent, spare),
         _ => Outcome::Unknown,
     }
 }

@@ -1,9 +1,12 @@
 // The header of a case: what the call takes, and what it must answer.
+use crate::call;
 use crate::call::Reply;
 use row::table;
 ghost use mathlib.Core.Path.{_≡_};
 ghost use Prim.Native.Nat.{_+_};
-ghost use lib.Dec.{leb};
+ghost use mathlib.Core.Bool.{cond};
+ghost use lib.Dec.{eqb, leb};
+ghost use Rattle.row.specs.Field.{fieldAt};
 ghost use Rattle.replay.specs.Cases.{caseOf, mustOf};
 
 // The header's bytes.
@@ -35,6 +38,16 @@ pub fn case_of(head: &[u8]) -> Case
     }
 }
 
+// What a step of a packet's reader must hand out; no other call hands out anything.
+fn tag_of(head: &[u8]) -> usize
+    ensures { λ r. ⌜ r ≡ cond (eqb (fieldAt (now (head .entry)) 0 4) 16) (fieldAt (now (head .entry)) 12 4) 0 ⌝ }
+{
+    if table::field_at(head, 0, 4) == call::STEP {
+        return table::field_at(head, 12, 4);
+    }
+    0
+}
+
 pub fn must_of(head: &[u8]) -> Reply
     ensures { λ r. ⌜ r ≡ mustOf (now (head .entry)) ⌝ }
 {
@@ -43,6 +56,7 @@ pub fn must_of(head: &[u8]) -> Reply
         place: table::field_at(head, 36, 4),
         count: table::field_at(head, 40, 4),
         value: table::field_at(head, 48, 8),
+        tag: tag_of(head),
     }
 }
 

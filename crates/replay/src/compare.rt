@@ -5,6 +5,8 @@ use crate::call::Reply;
 use crate::case::Case;
 use access::span;
 ghost use mathlib.Core.Path.{_≡_};
+ghost use Prim.Native.Nat.{_≤_};
+ghost use lib.ListN.{length};
 ghost use Rattle.access.specs.Tables.{same};
 ghost use Rattle.replay.specs.Verdicts.{alike, allAlike, textSame, verdict};
 
@@ -14,6 +16,7 @@ pub struct Alike {
     pub place: bool,
     pub count: bool,
     pub value: bool,
+    pub tag: bool,
     pub text: bool,
     pub buffer: bool,
 }
@@ -47,6 +50,7 @@ fn compared(r: Reply, must: Reply, text: bool, buffer: bool) -> Alike
         place: r.place == must.place,
         count: r.count == must.count,
         value: r.value == must.value,
+        tag: r.tag == must.tag,
         text,
         buffer,
     }
@@ -55,21 +59,23 @@ fn compared(r: Reply, must: Reply, text: bool, buffer: bool) -> Alike
 pub fn is_alike(a: Alike) -> bool
     ensures { λ r. ⌜ r ≡ allAlike a ⌝ }
 {
-    a.number & a.place & a.count & a.value & a.text & a.buffer
+    a.number & a.place & a.count & a.value & a.tag & a.text & a.buffer
 }
 
-// Makes a case's call and compares.
+// Makes a case's call and compares. `spare` is for a call that takes two buffers.
 pub fn judged(
     c: Case,
     must: Reply,
     first: &[u8],
     second: &[u8],
     lent: &mut [u8],
+    spare: &mut [u8],
     after: &[u8],
 ) -> Verdict
+    requires { ⌜ length (now lent) ≤ length (now spare) ⌝ }
     ensures { λ r. ⌜ r ≡ verdict c must (now (first .entry)) (now (second .entry)) (now (lent .entry)) (now (after .entry)) ⌝ }
 {
-    let o = call::made(c.call, c.a, c.b, first, second, lent);
+    let o = call::made(c.call, c.a, c.b, first, second, lent, spare);
     match o {
         Outcome::Answered(r) => {
             let text = same_text(c, first, second);

@@ -1,9 +1,10 @@
 // Replays a case file from standard input: makes each call, and compares the answer and every byte of the lent buffer.
-// A case whose header says more than 64 KiB, and one inside which the file ends, has a line of its own and differs. Reading ends
-// there: nothing says where the next case would start.
+// A case whose header says more than 64 KiB, and one inside which the file ends, has a line of its own and differs.
+// Reading ends there: nothing says where the next case would start.
 mod call;
 mod case;
 mod compare;
+mod display;
 mod report;
 mod tally;
 
@@ -40,8 +41,15 @@ fn body(texts: &mut [u8], lent: &mut [u8], after: &mut [u8], n: usize, t: usize)
 }
 
 // The two texts stand one after the other, each part at the front of its buffer.
-fn judged(c: Case, must: Reply, texts: &[u8], lent: &mut [u8], after: &[u8]) -> Verdict
-    requires { ⌜ (c .first + c .second ≤ length (now texts)) × (c .lent ≤ length (now lent)) × (c .lent ≤ length (now after)) ⌝ }
+fn judged(
+    c: Case,
+    must: Reply,
+    texts: &[u8],
+    lent: &mut [u8],
+    spare: &mut [u8],
+    after: &[u8],
+) -> Verdict
+    requires { ⌜ (c .first + c .second ≤ length (now texts)) × (c .lent ≤ length (now lent)) × (c .lent ≤ length (now spare)) × (c .lent ≤ length (now after)) ⌝ }
     ensures { λ r. ⌜ r ≡ verdict c must (take (c .first) (now (texts .entry))) (take (c .second) (drop (c .first) (now (texts .entry)))) (take (c .lent) (now (lent .entry))) (take (c .lent) (now (after .entry))) ⌝ }
 {
     let n = c.first;
@@ -53,6 +61,7 @@ fn judged(c: Case, must: Reply, texts: &[u8], lent: &mut [u8], after: &[u8]) -> 
         &texts[..n],
         &texts[n..e],
         &mut lent[..t],
+        spare,
         &after[..t],
     )
 }
@@ -65,12 +74,13 @@ fn whole(
     must: Reply,
     texts: &mut [u8],
     lent: &mut [u8],
+    spare: &mut [u8],
     after: &mut [u8],
 ) -> Step
-    requires { ⌜ (c .first + c .second ≤ length (now texts)) × (c .lent ≤ length (now lent)) × (c .lent ≤ length (now after)) ⌝ }
+    requires { ⌜ (c .first + c .second ≤ length (now texts)) × (c .lent ≤ length (now lent)) × (c .lent ≤ length (now spare)) × (c .lent ≤ length (now after)) ⌝ }
 {
     if body(texts, lent, after, c.first + c.second, c.lent) {
-        let v = judged(c, must, texts, lent, after);
+        let v = judged(c, must, texts, lent, spare, after);
         return report::told(number, is_shown, c.call, v);
     }
     report::cut_off(number);
@@ -83,6 +93,7 @@ fn next(
     is_shown: bool,
     texts: &mut [u8; 65536],
     lent: &mut [u8; 65536],
+    spare: &mut [u8; 65536],
     after: &mut [u8; 65536],
 ) -> Step {
     let mut head = [0u8; 56];
@@ -103,6 +114,7 @@ fn next(
             case::must_of(&head),
             texts,
             lent,
+            spare,
             after,
         );
     }
@@ -110,11 +122,16 @@ fn next(
     Step::Broken
 }
 
-fn replayed(texts: &mut [u8; 65536], lent: &mut [u8; 65536], after: &mut [u8; 65536]) -> Tally {
+fn replayed(
+    texts: &mut [u8; 65536],
+    lent: &mut [u8; 65536],
+    spare: &mut [u8; 65536],
+    after: &mut [u8; 65536],
+) -> Tally {
     let mut cases: u64 = 0;
     let mut differing: u64 = 0;
     while cases < u64::MAX {
-        let s = next(cases + 1, differing < SHOWN, texts, lent, after);
+        let s = next(cases + 1, differing < SHOWN, texts, lent, spare, after);
         if tally::is_end(s) {
             break;
         }
@@ -130,7 +147,8 @@ fn replayed(texts: &mut [u8; 65536], lent: &mut [u8; 65536], after: &mut [u8; 65
 fn main() {
     let mut texts = io::large_buffer();
     let mut lent = io::large_buffer();
+    let mut spare = io::large_buffer();
     let mut after = io::large_buffer();
-    let t = replayed(&mut texts, &mut lent, &mut after);
+    let t = replayed(&mut texts, &mut lent, &mut spare, &mut after);
     report::total(t.cases, t.differing);
 }

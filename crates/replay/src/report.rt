@@ -20,6 +20,8 @@ fn write_name(call: usize) {
         call::SPAN => write(b"text of a span"),
         call::FORCE => write(b"tag in force"),
         call::SINGLE_EXACT => write(b"single expression, exact"),
+        call::PACKET => write(b"packet"),
+        call::STEP => write(b"step of a packet's reader"),
         _ => {
             write(b"call ");
             io::print_decimal(1, call as u64);
@@ -49,6 +51,7 @@ fn difference(number: u64, call: usize, a: Alike) {
     write_part(a.place, b" place");
     write_part(a.count, b" count");
     write_part(a.value, b" value");
+    write_part(a.tag, b" what is handed out");
     write_part(a.text, b" text");
     write_part(a.buffer, b" buffer");
     write(b"\n");

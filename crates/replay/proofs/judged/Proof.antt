@@ -4,22 +4,22 @@ use Rattle.replay.proofs.judged.Statement.{statement}
 use Rattle.replay.proofs.judged.Tie as tie
 
 add-e : tie.Need-add-e
-add-e c = search (needs, body-laws)
+add-e c = search needs
 
 slice-aggregate-judged : tie.Need-slice-aggregate-judged
 slice-aggregate-judged c = search (needs, body-laws)
 
 sub-judged : tie.Need-sub-judged
-sub-judged c = search (needs, body-laws)
+sub-judged c = search needs
 
 part-judged-start : tie.Need-part-judged-start
-part-judged-start c = search (needs, body-laws)
+part-judged-start c = search needs
 
 part-judged-end : tie.Need-part-judged-end
-part-judged-end c = search (needs, body-laws)
+part-judged-end c = search needs
 
 slice-relend-prefix-judged : tie.Need-slice-relend-prefix-judged
-slice-relend-prefix-judged c = search (needs, body-laws)
+slice-relend-prefix-judged c = search needs
 
 slice-aggregate-judged-2 : tie.Need-slice-aggregate-judged-2
 slice-aggregate-judged-2 c = search (needs, body-laws)
@@ -31,7 +31,10 @@ judged-requires : tie.Need-judged-requires
 judged-requires c κs = search (needs, body-laws)
 
 same-length : tie.Need-same-length
-same-length c = search (needs, body-laws)
+same-length c = search needs
+
+same-length-2 : tie.Need-same-length-2
+same-length-2 c = search needs
 
 returns : tie.Need-returns
 returns c = search (needs, body-laws)
@@ -50,4 +53,5 @@ judged-spec =
     slice-aggregate-judged-3
     judged-requires
     same-length
+    same-length-2
     returns)

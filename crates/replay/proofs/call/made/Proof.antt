@@ -4,67 +4,76 @@ use Rattle.replay.proofs.call.made.Statement.{statement}
 use Rattle.replay.proofs.call.made.Tie as tie
 
 lumbrisse-read-requires : tie.Need-lumbrisse-read-requires
-lumbrisse-read-requires c κs = search (needs, made-laws)
+lumbrisse-read-requires c κs = search needs
 
 of-reply-requires : tie.Need-of-reply-requires
-of-reply-requires c κs = search (needs, made-laws)
+of-reply-requires c κs = search needs
 
 lumbrisse-recover-requires : tie.Need-lumbrisse-recover-requires
-lumbrisse-recover-requires c κs = search (needs, made-laws)
+lumbrisse-recover-requires c κs = search needs
 
 of-reply-requires-2 : tie.Need-of-reply-requires-2
-of-reply-requires-2 c κs = search (needs, made-laws)
+of-reply-requires-2 c κs = search needs
 
 lumbrisse-expression-requires : tie.Need-lumbrisse-expression-requires
-lumbrisse-expression-requires c κs = search (needs, made-laws)
+lumbrisse-expression-requires c κs = search needs
 
 of-evaluated-requires : tie.Need-of-evaluated-requires
-of-evaluated-requires c κs = search (needs, made-laws)
+of-evaluated-requires c κs = search needs
 
 lumbrisse-content-requires : tie.Need-lumbrisse-content-requires
-lumbrisse-content-requires c κs = search (needs, made-laws)
+lumbrisse-content-requires c κs = search needs
 
 of-reply-requires-3 : tie.Need-of-reply-requires-3
-of-reply-requires-3 c κs = search (needs, made-laws)
+of-reply-requires-3 c κs = search needs
 
 lumbrisse-span-requires : tie.Need-lumbrisse-span-requires
-lumbrisse-span-requires c κs = search (needs, made-laws)
+lumbrisse-span-requires c κs = search needs
 
 of-part-requires : tie.Need-of-part-requires
-of-part-requires c κs = search (needs, made-laws)
+of-part-requires c κs = search needs
 
 lumbrisse-tag-in-force-requires : tie.Need-lumbrisse-tag-in-force-requires
-lumbrisse-tag-in-force-requires c κs = search (needs, made-laws)
+lumbrisse-tag-in-force-requires c κs = search needs
 
 of-reply-requires-4 : tie.Need-of-reply-requires-4
-of-reply-requires-4 c κs = search (needs, made-laws)
+of-reply-requires-4 c κs = search needs
 
 lumbrisse-expression-exact-requires : tie.Need-lumbrisse-expression-exact-requires
-lumbrisse-expression-exact-requires c κs = search (needs, made-laws)
+lumbrisse-expression-exact-requires c κs = search needs
 
 of-evaluated-requires-2 : tie.Need-of-evaluated-requires-2
-of-evaluated-requires-2 c κs = search (needs, made-laws)
+of-evaluated-requires-2 c κs = search needs
 
 lumbrisse-expression-stacked-requires : tie.Need-lumbrisse-expression-stacked-requires
-lumbrisse-expression-stacked-requires c κs = search (needs, made-laws)
+lumbrisse-expression-stacked-requires c κs = search needs
 
 of-evaluated-requires-3 : tie.Need-of-evaluated-requires-3
-of-evaluated-requires-3 c κs = search (needs, made-laws)
+of-evaluated-requires-3 c κs = search needs
 
 lumbrisse-expression-stacked-exact-requires : tie.Need-lumbrisse-expression-stacked-exact-requires
-lumbrisse-expression-stacked-exact-requires c κs = search (needs, made-laws)
+lumbrisse-expression-stacked-exact-requires c κs = search needs
 
 of-evaluated-requires-4 : tie.Need-of-evaluated-requires-4
-of-evaluated-requires-4 c κs = search (needs, made-laws)
+of-evaluated-requires-4 c κs = search needs
+
+lumbrisse-packet-write-requires : tie.Need-lumbrisse-packet-write-requires
+lumbrisse-packet-write-requires c κs = search needs
+
+of-reply-requires-5 : tie.Need-of-reply-requires-5
+of-reply-requires-5 c κs = search needs
+
+stepped-requires : tie.Need-stepped-requires
+stepped-requires c κs = search needs
 
 same-length : tie.Need-same-length
-same-length c = search (needs, made-laws)
+same-length c = search needs
 
 returns : tie.Need-returns
 returns c = search (needs, made-laws)
 
 same-length-2 : tie.Need-same-length-2
-same-length-2 c = search (needs, made-laws)
+same-length-2 c = search needs
 
 returns-2 : tie.Need-returns-2
 returns-2 c = search (needs, made-laws)
@@ -73,7 +82,7 @@ returns-3 : tie.Need-returns-3
 returns-3 c = search (needs, made-laws)
 
 same-length-3 : tie.Need-same-length-3
-same-length-3 c = search (needs, made-laws)
+same-length-3 c = search needs
 
 returns-4 : tie.Need-returns-4
 returns-4 c = search (needs, made-laws)
@@ -82,7 +91,7 @@ returns-5 : tie.Need-returns-5
 returns-5 c = search (needs, made-laws)
 
 same-length-4 : tie.Need-same-length-4
-same-length-4 c = search (needs, made-laws)
+same-length-4 c = search needs
 
 returns-6 : tie.Need-returns-6
 returns-6 c = search (needs, made-laws)
@@ -96,8 +105,23 @@ returns-8 c = search (needs, made-laws)
 returns-9 : tie.Need-returns-9
 returns-9 c = search (needs, made-laws)
 
+same-length-5 : tie.Need-same-length-5
+same-length-5 c = search needs
+
 returns-10 : tie.Need-returns-10
 returns-10 c = search (needs, made-laws)
+
+same-length-6 : tie.Need-same-length-6
+same-length-6 c = search needs
+
+same-length-7 : tie.Need-same-length-7
+same-length-7 c = search needs
+
+returns-11 : tie.Need-returns-11
+returns-11 c = search (needs, made-laws)
+
+returns-12 : tie.Need-returns-12
+returns-12 c = search (needs, made-laws)
 
 pub made-spec : {M : Type 1} → statement M
 made-spec =
@@ -121,6 +145,9 @@ made-spec =
     of-evaluated-requires-3
     lumbrisse-expression-stacked-exact-requires
     of-evaluated-requires-4
+    lumbrisse-packet-write-requires
+    of-reply-requires-5
+    stepped-requires
     same-length
     returns
     same-length-2
@@ -134,4 +161,9 @@ made-spec =
     returns-7
     returns-8
     returns-9
-    returns-10)
+    same-length-5
+    returns-10
+    same-length-6
+    same-length-7
+    returns-11
+    returns-12)

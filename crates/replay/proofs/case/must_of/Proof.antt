@@ -4,16 +4,19 @@ use Rattle.replay.proofs.case.must_of.Statement.{statement}
 use Rattle.replay.proofs.case.must_of.Tie as tie
 
 field-at-requires : tie.Need-field-at-requires
-field-at-requires c κs = search (needs, header-laws)
+field-at-requires c κs = search needs
 
 field-at-requires-2 : tie.Need-field-at-requires-2
-field-at-requires-2 c κs = search (needs, header-laws)
+field-at-requires-2 c κs = search needs
 
 field-at-requires-3 : tie.Need-field-at-requires-3
-field-at-requires-3 c κs = search (needs, header-laws)
+field-at-requires-3 c κs = search needs
 
 field-at-requires-4 : tie.Need-field-at-requires-4
-field-at-requires-4 c κs = search (needs, header-laws)
+field-at-requires-4 c κs = search needs
+
+tag-of-requires : tie.Need-tag-of-requires
+tag-of-requires c κs = search needs
 
 returns : tie.Need-returns
 returns c = search (needs, header-laws)
@@ -26,4 +29,5 @@ must-of-spec =
     field-at-requires-2
     field-at-requires-3
     field-at-requires-4
+    tag-of-requires
     returns)

@@ -4,31 +4,37 @@ use Rattle.replay.proofs.compare.judged.Statement.{statement}
 use Rattle.replay.proofs.compare.judged.Tie as tie
 
 made-requires : tie.Need-made-requires
-made-requires c κs = search (needs, verdict-laws)
+made-requires c κs = search needs
 
 enum-known-o : tie.Need-enum-known-o
-enum-known-o c = search (needs, verdict-laws)
+enum-known-o c = search needs
 
 same-text-requires : tie.Need-same-text-requires
-same-text-requires c κs = search (needs, verdict-laws)
+same-text-requires c κs = search needs
 
 is-same-requires : tie.Need-is-same-requires
-is-same-requires c κs = search (needs, verdict-laws)
+is-same-requires c κs = search needs
 
 compared-requires : tie.Need-compared-requires
-compared-requires c κs = search (needs, verdict-laws)
+compared-requires c κs = search needs
 
 enum-told : tie.Need-enum-told
-enum-told c = search (needs, verdict-laws)
+enum-told c = search needs
 
 same-length : tie.Need-same-length
-same-length c = search (needs, verdict-laws)
+same-length c = search needs
+
+same-length-2 : tie.Need-same-length-2
+same-length-2 c = search needs
 
 returns : tie.Need-returns
 returns c = search (needs, verdict-laws)
 
-same-length-2 : tie.Need-same-length-2
-same-length-2 c = search (needs, verdict-laws)
+same-length-3 : tie.Need-same-length-3
+same-length-3 c = search needs
+
+same-length-4 : tie.Need-same-length-4
+same-length-4 c = search needs
 
 returns-2 : tie.Need-returns-2
 returns-2 c = search (needs, verdict-laws)
@@ -44,6 +50,8 @@ judged-spec =
     compared-requires
     enum-told
     same-length
-    returns
     same-length-2
+    returns
+    same-length-3
+    same-length-4
     returns-2)

@@ -1,7 +1,7 @@
 use Rattle.lumbrisse.proofs.NumberLaws.{number-laws}
 use borrow.Author.Needs.{needs}
-use Rattle.lumbrisse.proofs.reply.content_reply.Statement.{statement}
-use Rattle.lumbrisse.proofs.reply.content_reply.Tie as tie
+use Rattle.lumbrisse.proofs.reply.written_reply.Statement.{statement}
+use Rattle.lumbrisse.proofs.reply.written_reply.Tie as tie
 
 enum-known-a : tie.Need-enum-known-a
 enum-known-a c = search (needs, number-laws)
@@ -21,7 +21,7 @@ returns c = search (needs, number-laws)
 returns-2 : tie.Need-returns-2
 returns-2 c = search (needs, number-laws)
 
-pub content-reply-spec : {M : Type 1} → statement M
-content-reply-spec =
+pub written-reply-spec : {M : Type 1} → statement M
+written-reply-spec =
     tie.close
     (tie.spec enum-known-a replied-requires enum-known-a-2 replied-requires-2 returns returns-2)

@@ -1,0 +1,10 @@
+pub mod OrderLaws
+pub mod FieldLaws
+pub mod CopyLaws
+pub mod FoundLaws
+pub mod HandLaws
+pub mod RowLaws
+pub mod RowsLaws
+pub mod WriteLaws
+pub mod BackLaws
+pub mod RowItems
