@@ -1,6 +1,6 @@
-//! The reader's calls, on lent buffers, and two that make their own table.
+//! The calls on ledgers, expressions, rows and tags, with lent buffers.
 
-use crate::{ffi, Refusal, ROW_BYTES};
+use crate::{ffi, Refusal};
 
 /// A ledger's bytes at the most; a longer one is refused with 1.
 ///
@@ -9,9 +9,6 @@ use crate::{ffi, Refusal, ROW_BYTES};
 /// assert_eq!(lumbrisse::expression(&long).unwrap_err().number, 1);
 /// ```
 pub const SIZE_LIMIT: usize = 16_777_216;
-
-/// How many bytes of a ledger a first table has a row for; ledgers of readings need fewer rows.
-const BYTES_TO_A_ROW: usize = 8;
 
 /// The value of an expression, and where it stops.
 ///
@@ -28,7 +25,8 @@ pub struct Evaluated {
     pub stop: usize,
 }
 
-fn counted(reply: ffi::Reply) -> Result<usize, Refusal> {
+/// What a call counts, or its refusal.
+pub(crate) fn counted(reply: ffi::Reply) -> Result<usize, Refusal> {
     match reply.number {
         0 => Ok(reply.count),
         number => Err(Refusal {
@@ -196,58 +194,4 @@ pub fn span_text(ledger: &[u8], start: usize, end: usize) -> &[u8] {
     let part = ffi::span(ledger, start, end);
     let rest = ledger.get(part.start..).unwrap_or_default();
     rest.get(..part.length).unwrap_or_default()
-}
-
-/// Plain reading into a table of its own, which holds the ledger's rows and nothing else.
-///
-/// Refused as [`read`] is; with 9 only where the memory for the need cannot be had.
-///
-/// ```
-/// let table = lumbrisse::read_to_vec(b"; one\n; two\n")?;
-/// assert_eq!(table.len(), 2 * lumbrisse::ROW_BYTES);
-/// # Ok::<(), lumbrisse::Refusal>(())
-/// ```
-pub fn read_to_vec(ledger: &[u8]) -> Result<Vec<u8>, Refusal> {
-    grown(ledger, read)
-}
-
-/// Recovering reading into a table of its own, as [`read_to_vec`].
-///
-/// ```
-/// let table = lumbrisse::recover_to_vec(b"2024-01-31\n; kept with what stands above it\n")?;
-/// assert_eq!(table.len(), lumbrisse::ROW_BYTES);
-/// # Ok::<(), lumbrisse::Refusal>(())
-/// ```
-pub fn recover_to_vec(ledger: &[u8]) -> Result<Vec<u8>, Refusal> {
-    grown(ledger, recover)
-}
-
-/// Calls with a table that fits most ledgers, and where it is too short once more with one of the need.
-fn grown(
-    ledger: &[u8],
-    call: fn(&[u8], &mut [u8]) -> Result<usize, Refusal>,
-) -> Result<Vec<u8>, Refusal> {
-    let mut table = Vec::new();
-    let guess = ledger.len().min(SIZE_LIMIT) / BYTES_TO_A_ROW;
-    // A guess that no memory can be had for leaves the table empty, and the first call then says the need.
-    let _ = lengthen(&mut table, guess);
-    let mut answer = call(ledger, &mut table);
-    if let Err(refusal) = answer {
-        if refusal.number == Refusal::TOO_SHORT {
-            lengthen(&mut table, refusal.count).ok_or(refusal)?;
-            answer = call(ledger, &mut table);
-        }
-    }
-    table.truncate(answer?.saturating_mul(ROW_BYTES));
-    Ok(table)
-}
-
-/// Makes room for so many rows, or leaves the table where the memory cannot be had.
-fn lengthen(table: &mut Vec<u8>, rows: usize) -> Option<()> {
-    let size = rows.checked_mul(ROW_BYTES)?;
-    table
-        .try_reserve_exact(size.saturating_sub(table.len()))
-        .ok()?;
-    table.resize(size, 0);
-    Some(())
 }

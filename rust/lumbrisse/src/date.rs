@@ -1,6 +1,6 @@
 //! Dates, as a row holds them.
 
-use std::fmt;
+use core::fmt;
 
 /// A date: a year times 10,000 plus a month times 100 plus a day, in one number.
 ///

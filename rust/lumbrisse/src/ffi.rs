@@ -1,4 +1,4 @@
-//! The archive's nine functions, and the only unsafe code: each is called with the pointer and length of a live slice.
+//! The archive's eleven functions, and the only unsafe code: each is called with pointer and length of a live slice.
 #![allow(unsafe_code)]
 
 /// The answer of a call that reads or writes: number 0 is accepted.
@@ -20,6 +20,18 @@ pub struct Evaluated {
     pub bits: u64,
 }
 
+/// The answer of a step over a packet: number 0 is accepted, `place` is then behind what was handed out.
+#[repr(C)]
+#[derive(Clone, Copy)]
+pub struct Handed {
+    pub number: usize,
+    pub place: usize,
+    /// The tag of the row that was handed out, or 0.
+    pub tag: usize,
+    /// The bytes of its text; under 9 the need.
+    pub count: usize,
+}
+
 /// A part of a lent text.
 #[repr(C)]
 #[derive(Clone, Copy)]
@@ -30,7 +42,7 @@ pub struct Part {
 
 // A slice is passed as its pointer and its length.
 mod archive {
-    use super::{Evaluated, Part, Reply};
+    use super::{Evaluated, Handed, Part, Reply};
 
     extern "C" {
         pub fn lumbrisse_read(
@@ -71,6 +83,24 @@ mod archive {
             start: usize,
             end: usize,
         ) -> Part;
+        pub fn lumbrisse_packet_write(
+            ledger: *const u8,
+            ledger_length: usize,
+            table: *const u8,
+            table_length: usize,
+            k: usize,
+            packet: *mut u8,
+            packet_length: usize,
+        ) -> Reply;
+        pub fn lumbrisse_packet_next(
+            packet: *const u8,
+            packet_length: usize,
+            at: usize,
+            row: *mut u8,
+            row_length: usize,
+            text: *mut u8,
+            text_length: usize,
+        ) -> Handed;
     }
 }
 
@@ -155,4 +185,37 @@ pub fn tag_in_force(ledger: &[u8], table: &[u8], k: usize, tag: &[u8]) -> Reply 
 pub fn span(ledger: &[u8], start: usize, end: usize) -> Part {
     // SAFETY: the slice lives through the call and is only read, whatever `start` and `end` are. No pointer is kept.
     unsafe { archive::lumbrisse_span(ledger.as_ptr(), ledger.len(), start, end) }
+}
+
+pub fn packet_write(ledger: &[u8], table: &[u8], k: usize, packet: &mut [u8]) -> Reply {
+    // SAFETY: as for `read`, with `packet` in the table's place; `table` is only read, within its length, whatever its
+    // bytes and `k` are.
+    unsafe {
+        archive::lumbrisse_packet_write(
+            ledger.as_ptr(),
+            ledger.len(),
+            table.as_ptr(),
+            table.len(),
+            k,
+            packet.as_mut_ptr(),
+            packet.len(),
+        )
+    }
+}
+
+pub fn packet_next(packet: &[u8], at: usize, row: &mut [u8], text: &mut [u8]) -> Handed {
+    // SAFETY: the three slices live through the call and no two overlap, `row` and `text` being borrowed mutably. The
+    // function is proved for any bytes, lengths and place: it reads within `packet`, writes within `row` and `text`, and
+    // keeps no pointer.
+    unsafe {
+        archive::lumbrisse_packet_next(
+            packet.as_ptr(),
+            packet.len(),
+            at,
+            row.as_mut_ptr(),
+            row.len(),
+            text.as_mut_ptr(),
+            text.len(),
+        )
+    }
 }

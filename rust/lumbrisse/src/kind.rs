@@ -1,6 +1,6 @@
 //! The kinds of rows.
 
-use std::fmt;
+use core::fmt;
 
 /// Says each kind once: its name in Rust, its number in the table, its name in words, and what it is.
 macro_rules! kinds {

@@ -15,9 +15,14 @@
 //! | [`content`] | string content without its escapes |
 //! | [`tag_in_force`] | whether a tag is in force after some rows |
 //! | [`span_text`] | the text of a span: a part of the ledger itself |
+//! | [`packet`] | rows with their texts as a packet, for the building bus |
+//! | [`packet_next`] | one row of a packet, with its text |
 //!
-//! These lend buffers and allocate nothing. [`read_to_vec`] and [`recover_to_vec`] make a table that is large enough. [`Rows`] goes
-//! over a table row by row.
+//! These lend buffers and allocate nothing. [`read_to_vec`], [`recover_to_vec`] and [`packet_to_vec`] make a table or
+//! packet that is large enough. [`Rows`] goes over a table row by row, [`Packets`] over a packet.
+//!
+//! Without its default feature `std` the crate is `no_std`, for a display: all but the three calls that allocate, and
+//! `std::error::Error` for a refusal, is there.
 //!
 //! ```
 //! use lumbrisse::{Kind, Millionths, Rows};
@@ -33,6 +38,7 @@
 //! # Ok::<(), lumbrisse::Refusal>(())
 //! ```
 
+#![no_std]
 #![deny(unsafe_code, missing_docs)]
 #![deny(
     clippy::unwrap_used,
@@ -42,22 +48,31 @@
     clippy::arithmetic_side_effects
 )]
 
+#[cfg(feature = "std")]
+extern crate std;
+
 mod call;
 mod date;
 mod ffi;
 mod kind;
 mod millionths;
+#[cfg(feature = "std")]
+mod owned;
+mod packet;
 mod refusal;
 mod row;
 mod table;
 
 pub use call::{
     content, expression, expression_exact, expression_stacked, expression_stacked_exact, read,
-    read_to_vec, recover, recover_to_vec, span_text, tag_in_force, Evaluated, SIZE_LIMIT,
+    recover, span_text, tag_in_force, Evaluated, SIZE_LIMIT,
 };
 pub use date::Date;
 pub use kind::Kind;
 pub use millionths::Millionths;
+#[cfg(feature = "std")]
+pub use owned::{packet_to_vec, read_to_vec, recover_to_vec};
+pub use packet::{packet, packet_next, Handed, PacketRow, Packets, TEXT_LIMIT};
 pub use refusal::Refusal;
 pub use row::Row;
 pub use table::{Rows, ROW_BYTES};

@@ -1,6 +1,6 @@
 //! Values: whole numbers of millionths.
 
-use std::fmt;
+use core::fmt;
 
 /// A value in millionths, shown as a decimal without trailing zeros.
 ///
@@ -8,6 +8,7 @@ use std::fmt;
 /// use lumbrisse::Millionths;
 ///
 /// assert_eq!(Millionths(12_500_000).to_string(), "12.5");
+/// assert_eq!(Millionths(100_010).to_string(), "0.10001");
 /// assert_eq!(Millionths(-1).to_string(), "-0.000001");
 /// assert_eq!(Millionths(0).to_string(), "0");
 /// ```
@@ -21,11 +22,14 @@ impl fmt::Display for Millionths {
             f.write_str("-")?;
         }
         write!(f, "{}", size / 1_000_000)?;
-        let rest = size % 1_000_000;
-        if rest == 0 {
-            return Ok(());
+        let (mut decimals, mut places) = (size % 1_000_000, 6_usize);
+        while decimals != 0 && decimals % 10 == 0 {
+            decimals /= 10;
+            places = places.saturating_sub(1);
         }
-        let digits = format!("{rest:06}");
-        write!(f, ".{}", digits.trim_end_matches('0'))
+        match decimals {
+            0 => Ok(()),
+            _ => write!(f, ".{decimals:0places$}"),
+        }
     }
 }

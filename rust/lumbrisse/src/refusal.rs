@@ -1,7 +1,6 @@
 //! A refusal: its number, its place, its count, and what the number means.
 
-use std::error::Error;
-use std::fmt;
+use core::fmt;
 
 /// Why a call was refused, and where.
 ///
@@ -13,9 +12,9 @@ use std::fmt;
 /// ```
 #[derive(Clone, Copy, Debug, PartialEq, Eq, Hash)]
 pub struct Refusal {
-    /// The number: 1 to 11.
+    /// The number: 1 to 11, or 18 to 20.
     pub number: usize,
-    /// The place, in bytes from the start of the lent text.
+    /// The place, in bytes from the start of the lent text or packet.
     pub place: usize,
     /// The need under [`Refusal::TOO_SHORT`], in rows for a row table and else in bytes; 0 under any other number.
     pub count: usize,
@@ -36,7 +35,7 @@ impl Refusal {
     ///
     /// ```
     /// let refusal = lumbrisse::content(b"a\\", &mut []).unwrap_err();
-    /// assert_eq!(refusal.meaning(), "the row number or the string content is not valid");
+    /// assert_eq!(refusal.meaning(), "a row count, a row's span or the string content is not valid");
     /// ```
     pub fn meaning(&self) -> &'static str {
         match self.number {
@@ -49,8 +48,11 @@ impl Refusal {
             7 => "a value is not a whole number of millionths",
             8 => "a value is divided by zero",
             9 => "the table or buffer is too short",
-            10 => "the row number or the string content is not valid",
+            10 => "a row count, a row's span or the string content is not valid",
             11 => "no expression stands at the start",
+            18 => "a text is longer than 65,535 bytes, the most that a field of a packet holds",
+            19 => "this field is cut short, or the packet ends where a text is due",
+            20 => "this field is not the one that is due: its tag, its length or its order is wrong",
             _ => "a number that this program does not know",
         }
     }
@@ -61,9 +63,10 @@ impl Refusal {
     /// let mut table = [0; 32];
     /// assert!(lumbrisse::read(b"2024-01-31\n", &mut table).unwrap_err().has_place());
     /// assert!(!lumbrisse::read(b"\n", &mut []).unwrap_err().has_place());
+    /// assert!(lumbrisse::packet_next(b"\x01", 0, &mut table, &mut []).unwrap_err().has_place());
     /// ```
     pub fn has_place(&self) -> bool {
-        !matches!(self.number, 1 | 9 | 10)
+        !matches!(self.number, 1 | 9 | 10 | 18)
     }
 }
 
@@ -85,4 +88,5 @@ impl fmt::Display for Refusal {
     }
 }
 
-impl Error for Refusal {}
+#[cfg(feature = "std")]
+impl std::error::Error for Refusal {}

@@ -1,7 +1,7 @@
 //! A table of rows, gone over row by row.
 
-use std::iter::FusedIterator;
-use std::slice::ChunksExact;
+use core::iter::FusedIterator;
+use core::slice::ChunksExact;
 
 use crate::Row;
 

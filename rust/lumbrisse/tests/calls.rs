@@ -1,13 +1,14 @@
-//! The nine calls on the real archive: 01's own listing and edges, every refusal, and every lent byte afterwards.
+//! The calls on the real archive, those on packets aside (`packets.rs`): 01's own listing and edges, every refusal, and
+//! every lent byte afterwards.
 
+mod answers;
+
+use answers::{need, refusal, MARK};
 use lumbrisse::{
     content, expression, expression_exact, expression_stacked, expression_stacked_exact, read,
     read_to_vec, recover, recover_to_vec, span_text, tag_in_force, Evaluated, Kind, Refusal, Row,
     Rows, ROW_BYTES, SIZE_LIMIT,
 };
-
-/// What a lent byte holds before a call.
-const MARK: u8 = 0xA5;
 
 const LISTED: &[u8] =
     b"2024-01-31 * \"Jan\" #m\n  E:Cell  12.5 KWH {2 EUR}\n  G:Import\n; end\noption \"a\" \"b\"\n";
@@ -18,22 +19,6 @@ type Form = fn(&[u8]) -> Result<Evaluated, Refusal>;
 const ROUNDING: [Form; 2] = [expression, expression_stacked];
 const EXACT: [Form; 2] = [expression_exact, expression_stacked_exact];
 const FORMS: [Form; 4] = [ROUNDING[0], ROUNDING[1], EXACT[0], EXACT[1]];
-
-fn refusal(number: usize, place: usize) -> Refusal {
-    Refusal {
-        number,
-        place,
-        count: 0,
-    }
-}
-
-fn need(count: usize) -> Refusal {
-    Refusal {
-        number: Refusal::TOO_SHORT,
-        place: 0,
-        count,
-    }
-}
 
 /// Reads into a table with room for much, and sees to it that a refusal left every byte.
 fn reading(ledger: &[u8]) -> Result<Vec<Row>, Refusal> {
@@ -315,6 +300,24 @@ fn refusal_11_is_for_no_expression() {
             assert_eq!(form(none), Err(refusal(11, 0)));
         }
     }
+}
+
+#[test]
+fn every_refusal_has_a_meaning_and_some_a_place() {
+    let numbers = [1, 2, 3, 4, 5, 6, 7, 8, 9, 10, 11, 18, 19, 20];
+    let unknown = refusal(0, 0).meaning();
+    let known: Vec<usize> = (0..100)
+        .filter(|number| refusal(*number, 0).meaning() != unknown)
+        .collect();
+    assert_eq!(known, numbers);
+    let mut meanings: Vec<_> = numbers.map(|number| refusal(number, 0).meaning()).into();
+    meanings.sort_unstable();
+    meanings.dedup();
+    assert_eq!(meanings.len(), numbers.len());
+    let whole_calls = numbers
+        .into_iter()
+        .filter(|number| !refusal(*number, 0).has_place());
+    assert!(whole_calls.eq([1, 9, 10, 18]));
 }
 
 #[test]

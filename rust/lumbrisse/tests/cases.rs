@@ -8,8 +8,8 @@ use std::fs;
 use std::path::PathBuf;
 
 use lumbrisse::{
-    content, expression, expression_exact, expression_stacked, expression_stacked_exact, read,
-    recover, span_text, tag_in_force, Evaluated, Refusal,
+    content, expression, expression_exact, expression_stacked, expression_stacked_exact, packet,
+    packet_next, read, recover, span_text, tag_in_force, Evaluated, Handed, Refusal,
 };
 
 /// Where another case file is named.
@@ -17,10 +17,10 @@ const NAMED: &str = "LUMBRISSE_CASES";
 
 /// The repository's own file, and how many cases it has: the model's, then those that a differential run has written.
 const OWN: &str = concat!(env!("CARGO_MANIFEST_DIR"), "/../../crates/replay/stdin");
-const OWN_CASES: usize = 900 + 287;
+const OWN_CASES: usize = 1100 + 287;
 
 /// The numbers of the calls that this test makes.
-const CALLS: [usize; 9] = [1, 2, 3, 4, 5, 6, 9, 12, 13];
+const CALLS: [usize; 11] = [1, 2, 3, 4, 5, 6, 9, 12, 13, 15, 16];
 
 /// The bytes of a case that are left.
 struct Left<'a>(&'a [u8]);
@@ -111,6 +111,20 @@ fn next<'a>(left: &mut Left<'a>) -> Case<'a> {
     }
 }
 
+/// One step over a packet: the buffer is the row's, of so many bytes, and then the text's.
+fn stepped(case: &Case, buffer: &mut [u8]) -> Answer {
+    let [at, row_room, tag, _] = case.numbers;
+    let (row, text) = buffer.split_at_mut(row_room);
+    let (found, answer) = match packet_next(case.first, at, row, text) {
+        Ok(Handed::End) => (0, answer(at, 0, 0)),
+        Ok(Handed::Entry { next }) => (1, answer(next, 0, 0)),
+        Ok(Handed::Detail { next, length }) => (2, answer(next, length, 0)),
+        Err(refusal) => (0, refused(refusal)),
+    };
+    assert_eq!(found, tag, "what is handed out at {at}");
+    answer
+}
+
 /// Makes the case's call on its buffer.
 fn called(case: &Case, buffer: &mut [u8]) -> Answer {
     let [a, b, ..] = case.numbers;
@@ -129,6 +143,8 @@ fn called(case: &Case, buffer: &mut [u8]) -> Answer {
         9 => evaluated(expression_exact(case.first)),
         12 => evaluated(expression_stacked(case.first)),
         13 => evaluated(expression_stacked_exact(case.first)),
+        15 => counted(packet(case.first, case.second, a, buffer)),
+        16 => stepped(case, buffer),
         call => panic!("the case file has a call {call}"),
     }
 }

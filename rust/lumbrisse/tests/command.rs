@@ -26,6 +26,17 @@ fn command(words: &[&str]) -> Command {
     command
 }
 
+/// The packet that the command writes, and what it says beside that.
+fn written(words: &[&str], input: &[u8]) -> (i32, Vec<u8>, String) {
+    let Output {
+        status,
+        stdout,
+        stderr,
+    } = output_on(input, words);
+    let err = String::from_utf8(stderr).unwrap();
+    (status.code().unwrap(), stdout, err)
+}
+
 struct Ran {
     status: i32,
     out: String,
@@ -45,6 +56,10 @@ fn run(words: &[&str]) -> Ran {
 }
 
 fn run_on(input: &[u8], words: &[&str]) -> Ran {
+    ran(output_on(input, words))
+}
+
+fn output_on(input: &[u8], words: &[&str]) -> Output {
     let mut child = command(words)
         .stdin(Stdio::piped())
         .stdout(Stdio::piped())
@@ -52,7 +67,7 @@ fn run_on(input: &[u8], words: &[&str]) -> Ran {
         .spawn()
         .unwrap();
     child.stdin.take().unwrap().write_all(input).unwrap();
-    ran(child.wait_with_output().unwrap())
+    child.wait_with_output().unwrap()
 }
 
 #[test]
@@ -272,6 +287,178 @@ fn every_refusal_of_a_ledger_is_shown() {
 }
 
 #[test]
+fn a_packet_holds_the_rows_of_a_ledger() {
+    for (ledger, words, read, status) in [
+        (CLEAN, &["packet", CLEAN][..], "read", 0),
+        (CLEAN, &["packet", "--recover", CLEAN], "recover", 0),
+        (DAMAGED, &["packet", "--recover", DAMAGED], "recover", 1),
+    ] {
+        let (ended, packet, err) = written(words, b"");
+        assert_eq!(ended, status);
+        let blocks = match status {
+            0 => "",
+            _ => "examples/building.beancount: 1 block refused (kind 90 in the packet)\n",
+        };
+        assert_eq!(err, blocks);
+        let Ran { status, out, err } = run_on(&packet, &["packet", "--read", "--rows", "-"]);
+        assert_eq!((status, err.as_str()), (0, ""));
+        assert_eq!(out, run(&[read, "--rows", ledger]).out);
+    }
+}
+
+#[test]
+fn a_packet_is_listed_for_a_person() {
+    let ledger = b"2024-01-31 *\n  ! A:B  1/3 EUR\npushtag #\n2024-02-29 * \"a\tb\nc\"\n";
+    let (status, packet, err) = written(&["packet", "-"], ledger);
+    assert_eq!((status, err.as_str()), (0, ""));
+    let Ran { status, out, err } = run_on(&packet, &["packet", "--read", "-"]);
+    assert_eq!((status, err.as_str()), (0, ""));
+    assert_eq!(
+        out,
+        "\
+        \x20   byte  row                     start      end    line\n\
+        \x20      0  transaction                 0       30       1  2024-01-31\n\
+        \x20     35    flag                     11       12       1  \"*\"\n\
+        \x20     74    posting                  17       20       2  \"A:B\"  flag !\n\
+        \x20    115    amount                   22       25       2  \"1/3\"  = 0.333333\n\
+        \x20    156  pushtag                    30       39       3\n\
+        \x20    191    tag                      39       39       3  \"\"\n\
+        \x20    229  blank                      39       40       3\n\
+        \x20    264  transaction                40       61       4  2024-02-29\n\
+        \x20    299    flag                     51       52       4  \"*\"\n\
+        \x20    338    narration                54       59       4  \"a\\tb\\nc\"\n\
+        <stdin>: whole, 10 rows and 6 texts in 381 bytes\n"
+    );
+
+    let Ran { status, out, .. } = run_on(b"", &["packet", "--read", "-"]);
+    let empty = "<stdin>: whole, 0 rows and 0 texts in 0 bytes\n";
+    assert_eq!((status, out.as_str()), (0, empty));
+}
+
+#[test]
+fn a_refused_block_is_listed_harmless_and_cut() {
+    let ledger = [b"; \x1b[2J\xff", &b"x".repeat(99)[..], b"\n"].concat();
+    let (status, packet, err) = written(&["packet", "--recover", "-"], &ledger);
+    assert_eq!(status, 1);
+    assert_eq!(err, "<stdin>: 1 block refused (kind 90 in the packet)\n");
+    let Ran { status, out, .. } = run_on(&packet, &["packet", "--read", "-"]);
+    assert_eq!(status, 0);
+    let block = out.lines().nth(1).unwrap();
+    let text = format!("  \"; \\u{{1b}}[2J\u{fffd}{}\"..  ", "x".repeat(53));
+    assert!(block.starts_with("       0  refused block "), "{block}");
+    assert!(block.contains(&text), "{block}");
+    assert!(block.ends_with("  refusal 2 at byte 2"), "{block}");
+}
+
+#[test]
+fn a_ledger_without_packet_writes_nothing() {
+    let (status, packet, err) = written(&["packet", DAMAGED], b"");
+    assert_eq!((status, packet.len()), (1, 0));
+    assert_eq!(err, run(&["read", DAMAGED]).err);
+
+    let long = "a".repeat(65_536);
+    let ledger = format!("; note\n2024-01-31 * \"Office\" \"{long}\"\n");
+    let (status, packet, err) = written(&["packet", "-"], ledger.as_bytes());
+    assert_eq!((status, packet.len()), (1, 0));
+    let start = "<stdin>:2:24: refusal 18: a text is longer than 65,535 bytes, \
+        the most that a field of a packet holds\n    2 | 2024-01-31 * \"Office\" \"aaa";
+    assert!(err.starts_with(start), "{err}");
+    assert!(
+        err.ends_with("\n      = this narration has 65536 bytes\n"),
+        "{err}"
+    );
+
+    let ledger = format!("\n2024-01-31 * \"{long}\n");
+    let (status, packet, err) = written(&["packet", "--recover", "-"], ledger.as_bytes());
+    assert_eq!((status, packet.len()), (1, 0));
+    assert!(err.starts_with("<stdin>:2:1: refusal 18: "), "{err}");
+    assert!(
+        err.ends_with("\n      = this refused block has 65551 bytes\n"),
+        "{err}"
+    );
+
+    let ledger = ledger.replace(&long, &long[..65_520]);
+    let (status, packet, _) = written(&["packet", "--recover", "-"], ledger.as_bytes());
+    assert_eq!((status, packet.len()), (1, 35 + 35 + 3 + 65_535));
+}
+
+#[test]
+fn a_damaged_packet_is_read_up_to_the_damage() {
+    let (_, packet, _) = written(&["packet", "-"], b"2024-01-31 close A:B\n");
+    assert_eq!(packet.len(), 35 + 35 + 6);
+    let Ran { status, out, err } = run_on(&packet[..75], &["packet", "--read", "-"]);
+    assert_eq!(status, 1);
+    assert_eq!(out.lines().count(), 2);
+    assert_eq!(
+        err,
+        "<stdin>: byte 70: refusal 19: this field is cut short, or the packet ends where a text is due\n      \
+         = before it: 1 row and 0 texts\n"
+    );
+
+    let twice = [&packet[..], &packet[35..], &packet[70..]].concat();
+    let Ran { status, out, err } = run_on(&twice, &["packet", "--read", "--rows", "-"]);
+    assert_eq!(status, 1);
+    assert_eq!(
+        out,
+        "10 0 21 1 20240131 1 0\n25 17 20 1 0 0 0\n25 17 20 1 0 0 0\n"
+    );
+    assert_eq!(
+        err,
+        "<stdin>: byte 117: refusal 20: this field is not the one that is due: \
+         its tag, its length or its order is wrong\n      \
+         = before it: 3 rows and 2 texts\n"
+    );
+
+    let Ran { status, out, err } = run(&["packet", "--read", CLEAN]);
+    assert_eq!((status, out.as_str()), (1, ""));
+    assert!(
+        err.starts_with("examples/clean.beancount: byte 0: refusal "),
+        "{err}"
+    );
+    assert!(
+        err.contains(" = there is no row before it: is this a packet "),
+        "{err}"
+    );
+}
+
+#[test]
+fn a_packet_is_one_object_of_json() {
+    let (_, packet, _) = written(&["packet", "-"], b"2024-01-31 close A:B\n");
+    let rows = "\"rows\":[\n\
+        {\"place\":0,\"kind\":10,\"name\":\"close\",\"start\":0,\"end\":21,\"line\":1,\"p\":20240131,\"q\":1,\"value\":0}";
+    let detail = ",\n\
+        {\"place\":35,\"kind\":25,\"name\":\"account\",\"start\":17,\"end\":20,\"line\":1,\"p\":0,\"q\":0,\"value\":0,\"text\":\"A:B\"}";
+    let Ran { status, out, err } = run_on(&packet, &["packet", "--read", "--json", "-"]);
+    assert_eq!((status, err.as_str()), (0, ""));
+    let whole = "{\"file\":\"<stdin>\",\"accepted\":true,\"bytes\":76,";
+    assert_eq!(out, format!("{whole}{rows}{detail}]}}\n"));
+
+    let Ran { status, out, err } = run_on(&packet[..70], &["packet", "--json", "-", "--read"]);
+    assert_eq!((status, err.as_str()), (1, ""));
+    let refused = "{\"file\":\"<stdin>\",\"accepted\":false,\"refusal\":{\"number\":19,\
+        \"meaning\":\"this field is cut short, or the packet ends where a text is due\",\"place\":70,\"count\":0},\"bytes\":70,";
+    assert_eq!(out, format!("{refused}{rows}]}}\n"));
+}
+
+#[test]
+fn a_packet_is_not_written_to_a_terminal() {
+    // The near end of a new terminal is one too.
+    let terminal = std::fs::OpenOptions::new()
+        .read(true)
+        .write(true)
+        .open("/dev/ptmx");
+    let output = command(&["packet", CLEAN])
+        .stdout(terminal.unwrap())
+        .output();
+    let Ran { status, err, .. } = ran(output.unwrap());
+    assert_eq!(status, 2);
+    assert!(
+        err.starts_with("lumbrisse: a packet is not for a terminal: "),
+        "{err}"
+    );
+}
+
+#[test]
 fn a_file_without_end_is_refused_for_its_size() {
     let Ran { status, err, .. } = run(&["read", "/dev/zero"]);
     assert_eq!(status, 1);
@@ -283,7 +470,7 @@ fn a_file_without_end_is_refused_for_its_size() {
 
 #[test]
 fn wrong_words_and_files_end_with_2() {
-    let wrong: [&[&str]; 9] = [
+    let wrong: [&[&str]; 13] = [
         &[],
         &["frob"],
         &["read"],
@@ -293,6 +480,10 @@ fn wrong_words_and_files_end_with_2() {
         &["read", "--rows", "--json", CLEAN],
         &["read", "examples/none.beancount"],
         &["read", "examples"],
+        &["packet"],
+        &["packet", "--json", CLEAN],
+        &["packet", "--read", "--recover", CLEAN],
+        &["packet", "--read", "examples/none.packet"],
     ];
     for words in wrong {
         let Ran { status, out, err } = run(words);
@@ -309,6 +500,7 @@ fn help_is_for_every_command() {
         &["read", "--help"],
         &["help", "recover"],
         &["eval", "-h"],
+        &["packet", "--read", "--help"],
         &["--version"],
     ] {
         let Ran { status, out, err } = run(words);

@@ -13,25 +13,39 @@ pub enum Request {
     Version,
 }
 
-/// A call of the reader, what it is called on, and how its answer is written.
+/// A task, what it is done with, and how its answer is written.
 #[derive(Debug, PartialEq, Eq)]
 pub struct Job {
-    pub verb: Verb,
+    pub task: Task,
     pub input: Input,
     pub form: Form,
-    /// Whether `eval` refuses what it would round.
-    pub exact: bool,
 }
 
-/// The reader's calls that a command stands for.
+/// What a command does with its input.
+#[derive(Clone, Copy, Debug, PartialEq, Eq)]
+pub enum Task {
+    /// Reads a ledger.
+    Read,
+    /// Reads a ledger on behind damage.
+    Recover,
+    /// Evaluates an expression; where `exact`, refuses what it would round.
+    Eval { exact: bool },
+    /// Writes a ledger's rows as a packet: those of plain reading, or of recovering reading.
+    WritePacket { recovering: bool },
+    /// Lists what a packet holds.
+    ReadPacket,
+}
+
+/// The commands by name.
 #[derive(Clone, Copy, Debug, PartialEq, Eq)]
 pub enum Verb {
     Read,
     Recover,
     Eval,
+    Packet,
 }
 
-/// Where a ledger or expression comes from.
+/// Where a ledger, packet or expression comes from.
 #[derive(Debug, PartialEq, Eq)]
 pub enum Input {
     /// Standard input, asked for by `-`.
@@ -61,7 +75,7 @@ fn wrong<T>(message: impl Into<String>) -> Result<T, Usage> {
 /// The request that the words after the program's name stand for.
 pub fn parse(mut words: impl Iterator<Item = OsString>) -> Result<Request, Usage> {
     let Some(word) = words.next() else {
-        return wrong("which command? read, recover or eval");
+        return wrong("which command? read, recover, eval or packet");
     };
     match word.to_str() {
         Some("-h" | "--help") => Ok(Request::Help(None)),
@@ -79,60 +93,104 @@ fn verb(word: &OsString) -> Result<Verb, Usage> {
         Some("read") => Ok(Verb::Read),
         Some("recover") => Ok(Verb::Recover),
         Some("eval") => Ok(Verb::Eval),
+        Some("packet") => Ok(Verb::Packet),
         _ => wrong(format!("no command is named {word:?}")),
     }
 }
 
 /// The words after a command: options anywhere before `--`, and one file or expression.
 fn job(verb: Verb, words: impl Iterator<Item = OsString>) -> Result<Request, Usage> {
-    let mut form = None;
+    let mut options = Options::default();
     let mut target = None;
-    let mut exact = false;
-    let mut options = true;
+    let mut behind_dashes = false;
     for word in words {
         let option = word
             .to_str()
-            .filter(|text| options && is_option(verb, text));
-        let asked = match option {
+            .filter(|text| !behind_dashes && is_option(verb, text));
+        match option {
             None => {
                 if target.replace(word).is_some() {
                     return wrong(one_only(verb));
                 }
-                continue;
             }
-            Some("--") => {
-                options = false;
-                continue;
-            }
+            Some("--") => behind_dashes = true,
             Some("-h" | "--help") => return Ok(Request::Help(Some(verb))),
-            Some("--exact") if verb == Verb::Eval => {
-                exact = true;
-                continue;
-            }
-            Some("--json") => Form::Json,
-            Some("--rows") if verb != Verb::Eval => Form::Rows,
-            Some(other) => return wrong(format!("no option of this command is named {other}")),
-        };
-        if form.replace(asked).is_some_and(|before| before != asked) {
-            return wrong("--rows and --json are two forms of one answer: give one of them");
+            Some(option) => options.add(verb, option)?,
         }
     }
     let Some(target) = target else {
         return wrong(missing(verb));
     };
     Ok(Request::Run(Job {
-        verb,
+        task: options.task(verb)?,
         input: input(verb, target),
-        form: form.unwrap_or(Form::Person),
-        exact,
+        form: options.form.unwrap_or(Form::Person),
     }))
+}
+
+/// The options that were given.
+#[derive(Default)]
+struct Options {
+    form: Option<Form>,
+    exact: bool,
+    recovering: bool,
+    reading: bool,
+}
+
+impl Options {
+    /// Adds an option of a command.
+    fn add(&mut self, verb: Verb, option: &str) -> Result<(), Usage> {
+        match (verb, option) {
+            (_, "--json") => return self.add_form(Form::Json),
+            (Verb::Read | Verb::Recover | Verb::Packet, "--rows") => {
+                return self.add_form(Form::Rows)
+            }
+            (Verb::Eval, "--exact") => self.exact = true,
+            (Verb::Packet, "--recover") => self.recovering = true,
+            (Verb::Packet, "--read") => self.reading = true,
+            _ => return wrong(format!("no option of this command is named {option}")),
+        }
+        Ok(())
+    }
+
+    fn add_form(&mut self, form: Form) -> Result<(), Usage> {
+        match self.form.replace(form) {
+            Some(before) if before != form => {
+                wrong("--rows and --json are two forms of one answer: give one of them")
+            }
+            _ => Ok(()),
+        }
+    }
+
+    /// What a command with these options does.
+    fn task(&self, verb: Verb) -> Result<Task, Usage> {
+        let task =
+            match verb {
+                Verb::Read => Task::Read,
+                Verb::Recover => Task::Recover,
+                Verb::Eval => Task::Eval { exact: self.exact },
+                Verb::Packet if self.reading && self.recovering => return wrong(
+                    "--recover is for writing a packet, --read for a written one: give one of them",
+                ),
+                Verb::Packet if self.reading => Task::ReadPacket,
+                Verb::Packet if self.form.is_some() => {
+                    return wrong(
+                        "a packet has a form of its own: --rows and --json are for `packet --read`",
+                    )
+                }
+                Verb::Packet => Task::WritePacket {
+                    recovering: self.recovering,
+                },
+            };
+        Ok(task)
+    }
 }
 
 /// An expression may start with `-`, so only `-h` and words with two of them are options to `eval`.
 fn is_option(verb: Verb, word: &str) -> bool {
     match verb {
         Verb::Eval => word.starts_with("--") || word == "-h",
-        Verb::Read | Verb::Recover => word.starts_with('-') && word != "-",
+        Verb::Read | Verb::Recover | Verb::Packet => word.starts_with('-') && word != "-",
     }
 }
 
@@ -140,21 +198,21 @@ fn input(verb: Verb, word: OsString) -> Input {
     match verb {
         _ if word == "-" => Input::Standard,
         Verb::Eval => Input::Word(word),
-        Verb::Read | Verb::Recover => Input::File(word),
+        Verb::Read | Verb::Recover | Verb::Packet => Input::File(word),
     }
 }
 
 fn one_only(verb: Verb) -> &'static str {
     match verb {
         Verb::Eval => "one expression at a time; put it between quotes",
-        Verb::Read | Verb::Recover => "one file at a time",
+        Verb::Read | Verb::Recover | Verb::Packet => "one file at a time",
     }
 }
 
 fn missing(verb: Verb) -> &'static str {
     match verb {
         Verb::Eval => "which expression? `-` reads it from standard input",
-        Verb::Read | Verb::Recover => "which file? `-` is standard input",
+        Verb::Read | Verb::Recover | Verb::Packet => "which file? `-` is standard input",
     }
 }
 
@@ -166,13 +224,8 @@ mod tests {
         parse(words.iter().map(OsString::from))
     }
 
-    fn run(verb: Verb, input: Input, form: Form) -> Result<Request, Usage> {
-        Ok(Request::Run(Job {
-            verb,
-            input,
-            form,
-            exact: false,
-        }))
+    fn run(task: Task, input: Input, form: Form) -> Result<Request, Usage> {
+        Ok(Request::Run(Job { task, input, form }))
     }
 
     #[test]
@@ -180,15 +233,15 @@ mod tests {
         let file = || Input::File("a".into());
         assert_eq!(
             parsed(&["read", "a"]),
-            run(Verb::Read, file(), Form::Person)
+            run(Task::Read, file(), Form::Person)
         );
         assert_eq!(
             parsed(&["read", "--rows", "a"]),
-            run(Verb::Read, file(), Form::Rows)
+            run(Task::Read, file(), Form::Rows)
         );
         assert_eq!(
             parsed(&["recover", "a", "--json"]),
-            run(Verb::Recover, file(), Form::Json)
+            run(Task::Recover, file(), Form::Json)
         );
     }
 
@@ -197,11 +250,11 @@ mod tests {
         let standard = || Input::Standard;
         assert_eq!(
             parsed(&["read", "-"]),
-            run(Verb::Read, standard(), Form::Person)
+            run(Task::Read, standard(), Form::Person)
         );
         assert_eq!(
             parsed(&["eval", "-"]),
-            run(Verb::Eval, standard(), Form::Person)
+            run(Task::Eval { exact: false }, standard(), Form::Person)
         );
     }
 
@@ -210,25 +263,46 @@ mod tests {
         let word = |text: &str| Input::Word(text.into());
         assert_eq!(
             parsed(&["eval", "-5"]),
-            run(Verb::Eval, word("-5"), Form::Person)
+            run(Task::Eval { exact: false }, word("-5"), Form::Person)
         );
         assert_eq!(
             parsed(&["eval", "--json", "--", "--5"]),
-            run(Verb::Eval, word("--5"), Form::Json)
+            run(Task::Eval { exact: false }, word("--5"), Form::Json)
         );
     }
 
     #[test]
     fn an_expression_may_be_asked_for_exactly() {
         for words in [["eval", "--exact", "1/3"], ["eval", "1/3", "--exact"]] {
-            let job = Job {
-                verb: Verb::Eval,
-                input: Input::Word("1/3".into()),
-                form: Form::Person,
-                exact: true,
-            };
-            assert_eq!(parsed(&words), Ok(Request::Run(job)));
+            let expected = run(
+                Task::Eval { exact: true },
+                Input::Word("1/3".into()),
+                Form::Person,
+            );
+            assert_eq!(parsed(&words), expected);
         }
+    }
+
+    #[test]
+    fn a_packet_is_written_or_read() {
+        let file = || Input::File("a".into());
+        let written = |recovering| run(Task::WritePacket { recovering }, file(), Form::Person);
+        assert_eq!(parsed(&["packet", "a"]), written(false));
+        assert_eq!(parsed(&["packet", "a", "--recover"]), written(true));
+        let read = |form| run(Task::ReadPacket, file(), form);
+        assert_eq!(parsed(&["packet", "--read", "a"]), read(Form::Person));
+        assert_eq!(
+            parsed(&["packet", "--rows", "a", "--read"]),
+            read(Form::Rows)
+        );
+        assert_eq!(
+            parsed(&["packet", "--read", "--json", "a"]),
+            read(Form::Json)
+        );
+        assert_eq!(
+            parsed(&["packet", "--read", "-"]),
+            run(Task::ReadPacket, Input::Standard, Form::Person)
+        );
     }
 
     #[test]
@@ -239,11 +313,15 @@ mod tests {
             Ok(Request::Help(Some(Verb::Recover)))
         );
         assert_eq!(parsed(&["eval", "-h"]), Ok(Request::Help(Some(Verb::Eval))));
+        assert_eq!(
+            parsed(&["packet", "--read", "-h"]),
+            Ok(Request::Help(Some(Verb::Packet)))
+        );
     }
 
     #[test]
     fn wrong_words_are_told() {
-        let wrong: [&[&str]; 10] = [
+        let wrong: [&[&str]; 17] = [
             &[],
             &["frob"],
             &["help", "frob"],
@@ -254,6 +332,13 @@ mod tests {
             &["read", "--rows", "--json", "a"],
             &["eval", "--rows", "1"],
             &["eval", "1", "+", "2"],
+            &["packet"],
+            &["packet", "--read"],
+            &["packet", "a", "b"],
+            &["packet", "--exact", "a"],
+            &["packet", "--rows", "a"],
+            &["packet", "--read", "--recover", "a"],
+            &["packet", "--read", "--rows", "--json", "a"],
         ];
         for words in wrong {
             assert!(parsed(words).is_err(), "{words:?}");

@@ -11,6 +11,7 @@ pub fn of(topic: Option<Verb>) -> &'static str {
         Some(Verb::Read) => READ,
         Some(Verb::Recover) => RECOVER,
         Some(Verb::Eval) => EVAL,
+        Some(Verb::Packet) => PACKET,
     }
 }
 
@@ -18,17 +19,20 @@ const ALL: &str = "\
 lumbrisse: a proved reader of Beancount ledgers
 
 Usage:
-  lumbrisse read FILE         read a ledger: all of it, or the first refusal in it
-  lumbrisse recover FILE      read on behind damage, and name every refused block
-  lumbrisse eval EXPRESSION   the value of an expression, to the millionth
-  lumbrisse help COMMAND      more on a command
+  lumbrisse read FILE           read a ledger: all of it, or the first refusal in it
+  lumbrisse recover FILE        read on behind damage, and name every refused block
+  lumbrisse eval EXPRESSION     the value of an expression, to the millionth
+  lumbrisse packet FILE > OUT   write a ledger's rows as a packet, for a display on the building bus
+  lumbrisse packet --read OUT   list what a packet holds
+  lumbrisse help COMMAND        more on a command
 
-A FILE or EXPRESSION of - is standard input.
+A FILE, OUT or EXPRESSION of - is standard input.
 
 Options:
-  --rows      read, recover: the rows themselves, one to a line
+  --rows      read, recover, packet --read: the rows themselves, one to a line
   --json      the answer as JSON
   --exact     eval: refuse what would be rounded
+  --recover   packet: the rows of recovering reading
   -h, --help  this text; after a command, more on it
   -V, --version
 
@@ -40,7 +44,7 @@ Start here:
 Exit status:
   0  accepted
   1  refused, or a block of it refused
-  2  wrong words, or a file that cannot be read
+  2  wrong words, a file that cannot be read, or a packet that would go to a terminal
 ";
 
 const READ: &str = "\
@@ -106,4 +110,32 @@ An expression that starts with -- goes after a word -- of its own.
 
 With --json, one object: \"value\", \"millionths\", \"rounded\" (true or false) and \"stop\", the place after
 its last byte.
+";
+
+const PACKET: &str = "\
+lumbrisse packet [--recover] FILE > OUT
+lumbrisse packet --read [--rows | --json] OUT
+
+Without --read: reads a ledger and writes its rows to standard output as a packet, which the box sends
+to a display over the building bus. A packet is a list of fields: a tag of one byte, a length of two
+(the highest first), the content. Tag 1 is an entry row, 2 a detail row, 3 the text of the detail row
+before it; a row has 32 bytes. A ledger that plain reading refuses has no packet, and neither has one
+with a text over 65,535 bytes (refusal 18): nothing is written then.
+
+With --recover, the rows of recovering reading: a refused block is a detail row of kind 90, with the
+block as its text. How many there are is said on standard error, and the exit status is then 1.
+
+With --read: lists a packet as a display reads it, a line for each row: its place in the packet, its
+kind, span and line in the ledger, its text, and its date or value. Long texts are cut. Where the packet
+is damaged the rows before that are listed, and standard error says what is wrong at which byte:
+  refusal 19  a field is cut short, or the packet ends where a text is due
+  refusal 20  a field is not the one that is due: its tag, its length or its order is wrong
+
+With --read --rows, the rows as `lumbrisse read --rows` lists them: these two print the same.
+
+  lumbrisse packet FILE | lumbrisse packet --read --rows -
+  lumbrisse read --rows FILE
+
+With --read --json, one object: \"accepted\", \"refusal\" where there is one, \"bytes\" and \"rows\", each
+with its \"place\" in the packet and all of its \"text\".
 ";

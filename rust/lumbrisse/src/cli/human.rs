@@ -2,11 +2,11 @@
 
 use std::io::{self, Write};
 
-use lumbrisse::{Evaluated, Kind, Millionths, Refusal};
+use lumbrisse::{Evaluated, Kind, Millionths, Refusal, Row};
 
 use super::fraction::Fraction;
 use super::paint::Paint;
-use super::place::{self, Known};
+use super::place::{self, Known, Place};
 use super::source::Source;
 use super::summary::{refused_blocks, Summary};
 use super::{decimal, exact};
@@ -46,8 +46,7 @@ pub fn recovered(
     let name = paint.bold(&source.name);
     let verdict = match blocks {
         0 => paint.green("nothing refused"),
-        1 => paint.red("1 block refused"),
-        _ => paint.red(&format!("{blocks} blocks refused")),
+        _ => paint.red(&refused_count(blocks)),
     };
     writeln!(out, "{name}: {verdict}, kept {}", entries(&summary))?;
     counts(out, &summary)
@@ -62,22 +61,65 @@ pub fn refused(
     refusal: Refusal,
 ) -> io::Result<()> {
     let at = place::of(&source.bytes, known, refusal.place);
-    let place = paint.bold(&format!("{}:{}:{}", source.name, at.line, at.column));
-    let number = paint.red(&format!("refusal {}", refusal.number));
-    let meaning = refusal.meaning();
     let detail = detail(source, refusal);
-    writeln!(out, "{place}: {number}: {meaning}{detail}")?;
+    heading(out, paint, source, &at, refusal, &detail)?;
     if refusal.has_place() {
-        let excerpt = place::excerpt(&source.bytes, refusal.place);
-        let mark = paint.red("^");
-        writeln!(out, "{:>5} | {}", at.line, excerpt.text)?;
-        writeln!(out, "{:>5} | {:2$}{mark}", "", "", excerpt.before)?;
+        marked(out, paint, source, &at, refusal.place)?;
     }
     // Refusal 4 stands at its entry's start, wherever the missing part is.
     if refusal.number == 4 && place::has_odd_quotes(&source.bytes, refusal.place) {
-        writeln!(out, "{:>5} = {OPEN_QUOTE}", "")?;
+        note(out, OPEN_QUOTE)?;
     }
     Ok(())
+}
+
+/// A row whose text is too long for a packet: the refusal has no place, the row has.
+pub fn too_long(
+    out: &mut impl Write,
+    paint: Paint,
+    source: &Source,
+    row: &Row,
+    refusal: Refusal,
+) -> io::Result<()> {
+    let start = row.start as usize;
+    let at = place::of(&source.bytes, Known::of(row), start);
+    heading(out, paint, source, &at, refusal, "")?;
+    marked(out, paint, source, &at, start)?;
+    let length = row.text(&source.bytes).len();
+    note(out, &format!("this {} has {length} bytes", row.kind))
+}
+
+/// Where a refusal is, its number and its meaning.
+fn heading(
+    out: &mut impl Write,
+    paint: Paint,
+    source: &Source,
+    at: &Place,
+    refusal: Refusal,
+    detail: &str,
+) -> io::Result<()> {
+    let place = paint.bold(&format!("{}:{}:{}", source.name, at.line, at.column));
+    let number = paint.red(&format!("refusal {}", refusal.number));
+    writeln!(out, "{place}: {number}: {}{detail}", refusal.meaning())
+}
+
+/// The line around a place, with a mark under it.
+fn marked(
+    out: &mut impl Write,
+    paint: Paint,
+    source: &Source,
+    at: &Place,
+    place: usize,
+) -> io::Result<()> {
+    let excerpt = place::excerpt(&source.bytes, place);
+    let mark = paint.red("^");
+    writeln!(out, "{:>5} | {}", at.line, excerpt.text)?;
+    writeln!(out, "{:>5} | {:2$}{mark}", "", "", excerpt.before)
+}
+
+/// What else there is to say of a refusal.
+pub fn note(out: &mut impl Write, text: &str) -> io::Result<()> {
+    writeln!(out, "{:>5} = {text}", "")
 }
 
 /// The value of an expression, and what it was rounded from.
@@ -123,6 +165,14 @@ fn detail(source: &Source, refusal: Refusal) -> String {
         (2, Some(byte)) => format!(" (this is byte 0x{byte:02X})"),
         (Refusal::TOO_SHORT, _) => format!(" (no memory for {} rows)", refusal.count),
         _ => String::new(),
+    }
+}
+
+/// How many blocks were refused.
+pub fn refused_count(blocks: usize) -> String {
+    match blocks {
+        1 => "1 block refused".to_string(),
+        _ => format!("{blocks} blocks refused"),
     }
 }
 

@@ -3,8 +3,9 @@
 use std::fmt::Write as _;
 use std::io::{self, Write};
 
-use lumbrisse::{Evaluated, Millionths, Refusal, Row, Rows};
+use lumbrisse::{Evaluated, Millionths, PacketRow, Refusal, Row, Rows};
 
+use super::packet::{self, Tally};
 use super::place::{self, Known};
 use super::source::Source;
 use super::summary::{refused_blocks, Summary};
@@ -64,6 +65,30 @@ pub fn evaluated(
     )
 }
 
+/// What a packet holds before its end or its refusal.
+pub fn packet(out: &mut impl Write, source: &Source, tally: &Tally) -> io::Result<()> {
+    let file = quoted(source.name.as_bytes());
+    let accepted = tally.refusal.is_none();
+    write!(out, "{{\"file\":{file},\"accepted\":{accepted},")?;
+    if let Some(refusal) = tally.refusal {
+        write!(
+            out,
+            "\"refusal\":{{\"number\":{},\"meaning\":{},\"place\":{},\"count\":{}}},",
+            refusal.number,
+            quoted(refusal.meaning().as_bytes()),
+            refusal.place,
+            refusal.count
+        )?;
+    }
+    write!(out, "\"bytes\":{},\"rows\":[", source.bytes.len())?;
+    for (number, (place, PacketRow { row, text })) in packet::placed(&source.bytes).enumerate() {
+        separate(out, number)?;
+        let fields = row_fields(&row, &[("text", text)]);
+        write!(out, "\n{{\"place\":{place},{fields}}}")?;
+    }
+    writeln!(out, "]}}")
+}
+
 fn refusal_object(source: &Source, known: Known, refusal: Refusal) -> String {
     let at = place::of(&source.bytes, known, refusal.place);
     format!(
@@ -79,17 +104,23 @@ fn refusal_object(source: &Source, known: Known, refusal: Refusal) -> String {
 
 fn rows(out: &mut impl Write, source: &Source, table: &[u8]) -> io::Result<()> {
     write!(out, "\"rows\":[")?;
+    let ledger = &source.bytes;
     for (number, row) in Rows::new(table).enumerate() {
         separate(out, number)?;
-        write!(out, "\n{}", row_object(source, &row))?;
+        let texts = [
+            ("text", row.kind.is_detail().then(|| row.text(ledger))),
+            ("currency", row.currency(ledger)),
+            ("metadata", row.metadata(ledger)),
+        ];
+        write!(out, "\n{{{}}}", row_fields(&row, &texts))?;
     }
     write!(out, "]")
 }
 
-/// A row's fields; a detail has its texts beside them.
-fn row_object(source: &Source, row: &Row) -> String {
-    let mut object = format!(
-        "{{\"kind\":{},\"name\":{},\"start\":{},\"end\":{},\"line\":{},\"p\":{},\"q\":{},\"value\":{}",
+/// A row's fields, and the texts beside them that it has.
+fn row_fields(row: &Row, texts: &[(&str, Option<&[u8]>)]) -> String {
+    let mut fields = format!(
+        "\"kind\":{},\"name\":{},\"start\":{},\"end\":{},\"line\":{},\"p\":{},\"q\":{},\"value\":{}",
         row.kind.number(),
         quoted(row.kind.name().as_bytes()),
         row.start,
@@ -99,19 +130,12 @@ fn row_object(source: &Source, row: &Row) -> String {
         row.q,
         row.value
     );
-    let ledger = &source.bytes;
-    let texts = [
-        ("text", row.kind.is_detail().then(|| row.text(ledger))),
-        ("currency", row.currency(ledger)),
-        ("metadata", row.metadata(ledger)),
-    ];
     for (name, text) in texts {
         if let Some(text) = text {
-            let _ = write!(object, ",\"{name}\":{}", quoted(text));
+            let _ = write!(fields, ",\"{name}\":{}", quoted(text));
         }
     }
-    object.push('}');
-    object
+    fields
 }
 
 fn separate(out: &mut impl Write, number: usize) -> io::Result<()> {

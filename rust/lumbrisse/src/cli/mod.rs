@@ -7,6 +7,8 @@ mod fraction;
 mod help;
 mod human;
 mod json;
+mod listing;
+mod packet;
 mod paint;
 mod place;
 mod rows;
@@ -15,10 +17,11 @@ mod source;
 mod summary;
 
 use std::ffi::OsString;
-use std::io::{self, BufWriter, ErrorKind, Write};
+use std::io::{self, BufWriter, ErrorKind, IsTerminal, Write};
 use std::process::ExitCode;
 
-use args::{Form, Job, Request, Verb};
+use args::{Form, Job, Request, Task};
+use lumbrisse::Rows;
 use paint::Paint;
 use place::Known;
 use source::Source;
@@ -72,7 +75,15 @@ fn ended(written: io::Result<()>, status: Status) -> Status {
 }
 
 fn run_job(job: &Job) -> Status {
-    let source = match source::load(&job.input) {
+    if matches!(job.task, Task::WritePacket { .. }) && io::stdout().is_terminal() {
+        complain("a packet is not for a terminal: send it to a file, as `lumbrisse packet FILE > OUT` does");
+        return Status::Trouble;
+    }
+    let loaded = match job.task {
+        Task::ReadPacket => source::packet(&job.input),
+        _ => source::text(&job.input),
+    };
+    let source = match loaded {
         Ok(source) => source,
         Err(message) => {
             complain(&message);
@@ -80,10 +91,12 @@ fn run_job(job: &Job) -> Status {
         }
     };
     let mut out = BufWriter::new(io::stdout().lock());
-    let (written, status) = match job.verb {
-        Verb::Read => read(&mut out, job.form, &source),
-        Verb::Recover => recover(&mut out, job.form, &source),
-        Verb::Eval => eval(&mut out, job.form, job.exact, &source),
+    let (written, status) = match job.task {
+        Task::Read => read(&mut out, job.form, &source),
+        Task::Recover => recover(&mut out, job.form, &source),
+        Task::Eval { exact } => eval(&mut out, job.form, exact, &source),
+        Task::WritePacket { recovering } => packet::write(&mut out, recovering, &source),
+        Task::ReadPacket => packet::read(&mut out, job.form, &source),
     };
     ended(written.and_then(|()| out.flush()), status)
 }
@@ -96,7 +109,7 @@ fn read(out: &mut impl Write, form: Form, source: &Source) -> Outcome {
         Ok(table) => {
             let written = match form {
                 Form::Person => human::accepted(out, Paint::stdout(), source, &table),
-                Form::Rows => rows::list(out, &table),
+                Form::Rows => rows::list(out, Rows::new(&table)),
                 Form::Json => json::accepted(out, source, &table),
             };
             (written, Status::Accepted)
@@ -110,16 +123,20 @@ fn recover(out: &mut impl Write, form: Form, source: &Source) -> Outcome {
         Ok(table) => {
             let written = match form {
                 Form::Person => human::recovered(out, Paint::stdout(), source, &table),
-                Form::Rows => rows::list(out, &table),
+                Form::Rows => rows::list(out, Rows::new(&table)),
                 Form::Json => json::recovered(out, source, &table),
             };
-            let status = match summary::refused_blocks(&table).next() {
-                None => Status::Accepted,
-                Some(_) => Status::Refused,
-            };
-            (written, status)
+            (written, recovered(&table))
         }
         Err(refusal) => refused(out, form, source, refusal),
+    }
+}
+
+/// How a run ends that recovering reading has given rows for.
+fn recovered(table: &[u8]) -> Status {
+    match summary::refused_blocks(table).next() {
+        None => Status::Accepted,
+        Some(_) => Status::Refused,
     }
 }
 

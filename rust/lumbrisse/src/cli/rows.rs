@@ -2,11 +2,11 @@
 
 use std::io::{self, Write};
 
-use lumbrisse::Rows;
+use lumbrisse::Row;
 
 /// A line for each row: kind, start, end, line, p, q, value.
-pub fn list(out: &mut impl Write, table: &[u8]) -> io::Result<()> {
-    for row in Rows::new(table) {
+pub fn list(out: &mut impl Write, rows: impl Iterator<Item = Row>) -> io::Result<()> {
+    for row in rows {
         writeln!(
             out,
             "{} {} {} {} {} {} {}",

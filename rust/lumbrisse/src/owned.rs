@@ -1,0 +1,91 @@
+//! The calls that make their own table or packet.
+
+use std::vec::Vec;
+
+use crate::{packet, read, recover, Refusal, ROW_BYTES, SIZE_LIMIT};
+
+/// How many bytes of a ledger a first table has a row for; ledgers of readings need fewer rows.
+const BYTES_TO_A_ROW: usize = 8;
+
+/// Plain reading into a table of its own, which holds the ledger's rows and nothing else.
+///
+/// Refused as [`read`] is; with 9 only where the memory for the need cannot be had.
+///
+/// ```
+/// let table = lumbrisse::read_to_vec(b"; one\n; two\n")?;
+/// assert_eq!(table.len(), 2 * lumbrisse::ROW_BYTES);
+/// # Ok::<(), lumbrisse::Refusal>(())
+/// ```
+pub fn read_to_vec(ledger: &[u8]) -> Result<Vec<u8>, Refusal> {
+    table(ledger, read)
+}
+
+/// Recovering reading into a table of its own, as [`read_to_vec`].
+///
+/// ```
+/// let table = lumbrisse::recover_to_vec(b"2024-01-31\n; kept with what stands above it\n")?;
+/// assert_eq!(table.len(), lumbrisse::ROW_BYTES);
+/// # Ok::<(), lumbrisse::Refusal>(())
+/// ```
+pub fn recover_to_vec(ledger: &[u8]) -> Result<Vec<u8>, Refusal> {
+    table(ledger, recover)
+}
+
+/// The packet of the first `k` rows of a table, in bytes of its own.
+///
+/// Refused as [`packet`] is; with 9 only where the memory for the need cannot be had.
+///
+/// ```
+/// use lumbrisse::{Packets, Rows};
+///
+/// let ledger = b"2024-01-31 close Meters:Flat-1\n";
+/// let table = lumbrisse::read_to_vec(ledger)?;
+/// let packet = lumbrisse::packet_to_vec(ledger, &table, Rows::new(&table).len())?;
+/// assert_eq!(packet.len(), 35 + 35 + 3 + 13);
+/// assert_eq!(Packets::new(&packet).count(), 2);
+/// # Ok::<(), lumbrisse::Refusal>(())
+/// ```
+pub fn packet_to_vec(ledger: &[u8], table: &[u8], k: usize) -> Result<Vec<u8>, Refusal> {
+    // With no room the first call says the need, in bytes.
+    grown(0, 1, |bytes| packet(ledger, table, k, bytes))
+}
+
+/// The rows of a ledger, in a first table that fits most of them.
+fn table(
+    ledger: &[u8],
+    call: fn(&[u8], &mut [u8]) -> Result<usize, Refusal>,
+) -> Result<Vec<u8>, Refusal> {
+    let guess = ledger.len().min(SIZE_LIMIT) / BYTES_TO_A_ROW;
+    grown(guess, ROW_BYTES, |table| call(ledger, table))
+}
+
+/// Calls with room for a guess, and where that is too short once more with room for the need. A call counts pieces of
+/// one size, and so does its need.
+fn grown(
+    guess: usize,
+    size: usize,
+    call: impl Fn(&mut [u8]) -> Result<usize, Refusal>,
+) -> Result<Vec<u8>, Refusal> {
+    let mut buffer = Vec::new();
+    // A guess that no memory can be had for leaves the buffer empty, and the first call then says the need.
+    let _ = lengthen(&mut buffer, guess.saturating_mul(size));
+    let mut answer = call(&mut buffer);
+    if let Err(refusal) = answer {
+        if refusal.number == Refusal::TOO_SHORT {
+            let need = refusal.count.checked_mul(size).ok_or(refusal)?;
+            lengthen(&mut buffer, need).ok_or(refusal)?;
+            answer = call(&mut buffer);
+        }
+    }
+    buffer.truncate(answer?.saturating_mul(size));
+    Ok(buffer)
+}
+
+/// Makes a buffer so many bytes long, or leaves it where the memory cannot be had.
+fn lengthen(buffer: &mut Vec<u8>, length: usize) -> Option<()> {
+    buffer
+        .try_reserve_exact(length.saturating_sub(buffer.len()))
+        .ok()?;
+    buffer.resize(length, 0);
+    Some(())
+}
