@@ -223,7 +223,7 @@ pub ruleset copy-laws = (copy-end, copy-stop, copy-on, copy-room, copy-left, sla
 
 -- ---- the call
 
-front : (w t : List ℕ) → length w ≤ length t → sets t 0 w ≡ w ++ drop (length w) t
+pub front : (w t : List ℕ) → length w ≤ length t → sets t 0 w ≡ w ++ drop (length w) t
 front w t h = rw (zero-add (length w)) at (sets-eq w t 0 (rw (zero-add (length w)) h))
 
 module _ (c t : List ℕ) (r : Measured) (p : r ≡ measuredOf c) where

@@ -1,10 +1,9 @@
 -- A tagged field: what it states, whether it is whole, and how it is put.
 use Prim.Native.Nat.{ℕ, suc, _+_, _*_, _/_, _%_, _≤_, _<_}
-use native.Mathlib.Nat.{add-zero, add-suc, suc-add}
 use native.Mathlib.Omega.{arith}
 use mathlib.Core.Path.{_≡_, refl, _∙_}
 use mathlib.Core.Bool.{true, false}
-use mathlib.Core.List.{List, [], _∷_, _++_}
+use mathlib.Core.List.{List, _++_}
 use borrow.Author.Tests.{le-leb, lt-leb, leb-true}
 use lib.Dec.{leb}
 use lib.ListN.{length, getD, set, drop, length-append}
@@ -57,10 +56,6 @@ field-put b v u c tag at ev eu =
     eu ∙ rw (ev, ← k3)
 
 pub ruleset put-laws = (head-put, high-byte, field-put)
-
-pub sets-append : (vs ws t : List ℕ) (i : ℕ) → sets t i (vs ++ ws) ≡ sets (sets t i vs) (i + length vs) ws
-sets-append [] ws t i = rw add-zero
-sets-append (v ∷ vs) ws t i = rw (add-suc, sets-append vs ws (set t i v) (suc i), suc-add)
 
 -- ---- a field that was put, and what stands behind it
 

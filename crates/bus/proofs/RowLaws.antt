@@ -9,6 +9,7 @@ use lib.Dec.{leb}
 use lib.ListN.{length, take, length-append}
 use lib.Seq.{sets, length-sets, length-take-le}
 use Rattle.row.specs.declared.table.Row.{Row}
+use Rattle.row.proofs.FieldLaws.{sets-append}
 use Rattle.access.specs.Spans.{goodSpan, spanText}
 use Rattle.bus.specs.declared.writer.Measured.{Measured}
 use Rattle.bus.specs.Refusals.{notValid, tooLong}
@@ -17,7 +18,7 @@ use Rattle.bus.specs.Writing.{rowOf, textOf, fault, rowFields}
 use Rattle.bus.specs.steps.Measuring.{measuredBy, rowMeasured}
 use Rattle.bus.specs.steps.Putting.{RowFits}
 use Rattle.row.specs.Row.{width}
-use Rattle.bus.proofs.FieldLaws.{length-field, sets-append}
+use Rattle.bus.proofs.FieldLaws.{length-field}
 use Rattle.bus.proofs.FoundLaws.{entry-kind, detail-kind}
 
 -- ---- what refuses a row

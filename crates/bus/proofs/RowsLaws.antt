@@ -11,12 +11,12 @@ use lib.ListN.{length, take, drop, length-append, length-drop}
 use lib.Seq.{sets, drop-drop, length-sets}
 use mir.Syntax.{w64}
 use mir.Val.{Fits}
+use Rattle.row.proofs.FieldLaws.{sets-append}
 use Rattle.bus.specs.declared.writer.Measured.{Measured}
 use Rattle.bus.specs.Writing.{rowOf, fault, rowFields, faults, packet, largest}
 use Rattle.bus.specs.steps.Measuring.{measuredBy, rowMeasured, measuredFrom}
 use Rattle.bus.specs.steps.Putting.{RowFits, RowsFit}
 use Rattle.row.specs.Row.{width}
-use Rattle.bus.proofs.FieldLaws.{sets-append}
 use Rattle.bus.proofs.FoundLaws.{rest-of}
 
 -- ---- row by row: `left` rows are left, from byte i of the table on

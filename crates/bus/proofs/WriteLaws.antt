@@ -9,6 +9,7 @@ use borrow.Author.Tests.{le-leb, lt-leb}
 use lib.Dec.{eqb}
 use lib.ListN.{length}
 use lib.Seq.{sets}
+use Rattle.access.proofs.ContentLaws.{front}
 use Rattle.access.specs.declared.written.Written.{Written}
 use Rattle.bus.specs.declared.writer.Measured.{Measured}
 use Rattle.bus.specs.Refusals.{tooShort, notValid}
@@ -16,7 +17,6 @@ use Rattle.bus.specs.Writing.{faults, packet, refusing, written, written
 use Rattle.bus.specs.steps.Measuring.{measuredBy, measuredFrom}
 use Rattle.bus.specs.steps.Putting.{RowsFit}
 use Rattle.row.specs.Row.{width}
-use Rattle.bus.proofs.CopyLaws.{front-put}
 use Rattle.bus.proofs.RowsLaws.{by-fault, by-bytes}
 
 module _ (s t b : List ℕ) (n : ℕ) where
@@ -80,6 +80,6 @@ module _ (s t b : List ℕ) (n : ℕ) where
 
         pub bytes-left : (v : List ℕ) → v ≡ sets b 0 (packet s n t) → v ≡ writtenLeft s n t b
         unfolding writtenLeft
-        bytes-left v ev = ev ∙ front-put (packet s n t) b write-room ∙ rw (refused-by, is-bytes .0, le-leb (length (packet s n t)) (length b) write-room)
+        bytes-left v ev = ev ∙ front (packet s n t) b write-room ∙ rw (refused-by, is-bytes .0, le-leb (length (packet s n t)) (length b) write-room)
 
 pub ruleset write-laws = (many-answer, many-left, fault-answer, fault-left, short-answer, short-left, rows-fit, bytes-answer, bytes-left)

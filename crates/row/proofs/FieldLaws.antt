@@ -41,7 +41,7 @@ le-add (suc k) j x =
     let e : x / 256 / 256 ^ k ≡ x / 256 ^ suc k = div-div-eq-div-mul x 256 (256 ^ k) ∙ ap (λ (n : ℕ). x / n) (sym (pow-succ' 256 k)) in
     rw (suc-add, le-add k j (x / 256), e)
 
-sets-append : (vs ws t : List ℕ) (i : ℕ) → sets t i (vs ++ ws) ≡ sets (sets t i vs) (i + length vs) ws
+pub sets-append : (vs ws t : List ℕ) (i : ℕ) → sets t i (vs ++ ws) ≡ sets (sets t i vs) (i + length vs) ws
 sets-append [] ws t i = rw add-zero
 sets-append (v ∷ vs) ws t i = rw (add-suc, sets-append vs ws (set t i v) (suc i), suc-add)
 
