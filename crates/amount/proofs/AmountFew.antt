@@ -1,5 +1,5 @@
 -- Rule 10: the rows of amounts stand in order, and are no more than the bytes.
-use Prim.Native.Nat.{ℕ, _+_}
+use Prim.Native.Nat.{ℕ, _+_, _<_}
 use native.Mathlib.Omega.{arith}
 use mathlib.Core.List.{List}
 use lib.ListN.{length}
@@ -11,15 +11,15 @@ use Rattle.amount.specs.Expression.{expression}
 use Rattle.amount.specs.Amounts.{amount, hardGap, hardCurrency, hardAmount, priceOf}
 use Rattle.amount.proofs.ExpressionEnds.{expression-reach}
 use Rattle.amount.proofs.AmountLaws.{hard-gap-reach, hard-currency-reach}
-use Rattle.amount.proofs.RowCounts.{Fits, to-fits, fits-from, then-fits, and-fits, Bare, must-bare, bare-and, gap-bare, currency-bare}
+use Rattle.amount.proofs.RowCounts.{refusalKind, Fits, to-fits, fits-from, then-fits, and-fits, Bare, must-bare, bare-and, gap-bare, currency-bare}
 
 module _ (s : List ℕ) where
   abbrev N : ℕ
   N = length s
 
-  pub amount-fits : (k at : ℕ) → Fits at (amount k s at)
+  pub amount-fits : (k at : ℕ) → k < refusalKind → Fits s at (amount k s at)
   unfolding amount
-  amount-fits k at =
+  amount-fits k at h =
       then-fits N (at + 1) at (expression s at) _ (expression-reach s at) (λ e v p₁ q₁.
       bare-and N (e + 1) at (gap s e) _ (gap-reach s e q₁) (gap-bare s e) (λ c p₂ q₂.
       bare-and N (c + 1) at (currency s c) _ (currency-reach s c) (currency-bare s c) (λ d p₃ q₃. to-fits at d _ (omega arith))))
@@ -28,23 +28,23 @@ module _ (s : List ℕ) where
   unfolding hardGap
   hard-gap-bare at = must-bare at _ (gap-bare s at)
 
-  pub hard-currency-fits : (at : ℕ) → Fits at (hardCurrency s at)
+  pub hard-currency-fits : (at : ℕ) → Fits s at (hardCurrency s at)
   unfolding hardCurrency
   hard-currency-fits at =
       bare-and N (at + 1) at (must at (currency s at)) _ (must-reach N (at + 1) at _ (currency-reach s at)) (must-bare at _ (currency-bare s at)) (λ e p q.
       to-fits at e _ (omega arith))
 
-  pub hard-amount-fits : (k at : ℕ) → Fits at (hardAmount k s at)
+  pub hard-amount-fits : (k at : ℕ) → k < refusalKind → Fits s at (hardAmount k s at)
   unfolding hardAmount
-  hard-amount-fits k at =
+  hard-amount-fits k at h =
       then-fits N (at + 1) at (must at (expression s at)) _ (must-reach N (at + 1) at _ (expression-reach s at)) (λ e v p₁ q₁.
       bare-and N (e + 1) at (hardGap s e) _ (hard-gap-reach s e q₁) (hard-gap-bare e) (λ c p₂ q₂.
       bare-and N (c + 1) at (must c (currency s c)) _ (must-reach N (c + 1) c _ (currency-reach s c)) (must-bare c _ (currency-bare s c)) (λ d p₃ q₃.
       to-fits at d _ (omega arith))))
 
-  pub price-of-fits : (at : ℕ) → Fits at (priceOf s at)
+  pub price-of-fits : (at : ℕ) → Fits s at (priceOf s at)
   unfolding priceOf
   price-of-fits at =
       and-fits N (at + 1) at (hardCurrency s at) _ (hard-currency-reach s at) (hard-currency-fits at) (λ e p₁ q₁.
       bare-and N (e + 1) e (hardGap s e) _ (hard-gap-reach s e q₁) (hard-gap-bare e) (λ g p₂ q₂.
-      fits-from g e _ (omega arith) (hard-amount-fits 26 g)))
+      fits-from g e _ (omega arith) (hard-amount-fits 26 g (omega arith))))

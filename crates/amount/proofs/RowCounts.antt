@@ -1,12 +1,16 @@
--- The rows of a reading from k to j: they stand in order of start, start from k to j, and are no more than the bytes. Tokens make none.
-use Prim.Native.Nat.{ℕ, zero, suc, _+_, _≤_}
+-- The rows of a reading from k to j: they stand in order of start, start from k to j, at j only in mid-line, have kinds
+-- below that of a refusal row, and are no more than the bytes. Tokens make none.
+use Prim.Native.Nat.{ℕ, zero, suc, _+_, _-_, _≤_, _<_}
 use native.Mathlib.Omega.{arith}
 use mathlib.Core.Path.{_≡_, refl, subst}
-use mathlib.Core.Bool.{Bool, true, false, cond}
+use mathlib.Core.Bool.{Bool, true, false, cond, _||_}
 use mathlib.Core.List.{List, [], _∷_, _++_}
+use borrow.Author.Tests.{eqb-true, ne-eqb}
 use lib.Dec.{eqb}
 use lib.ListN.{length, getD, length-append}
 use Rattle.text.specs.Accounts.{accountAt}
+use Rattle.text.specs.Strings.{stringAt}
+use Rattle.text.specs.Tags.{markedAt}
 use Rattle.text.specs.Answer.{Ans, To, Miss, Hard, _then_, must, _else_, more, _and_, maybe, many}
 use Rattle.text.specs.Leaves.{token, named, gap, lineEnd, emptyLine, string, account, currency, tag, link, word, byte}
 use Rattle.text.specs.declared.Read.{Read}
@@ -17,78 +21,93 @@ use Rattle.amount.specs.Details.{Rows}
 
 -- ---- lists of rows
 
--- starts that rise from k to j
-abbrev pub Rising : ℕ → ℕ → List Detail → Type 0
-Rising k j [] = k ≤ j
-Rising k j (d ∷ ds) = (k ≤ d .start) × Rising (d .start) j ds
+-- the kind of a refusal row: those of plain reading are below it
+abbrev pub refusalKind : ℕ
+refusalKind = 90
+
+-- 1 where a byte that is no line feed stands before a place, else 0
+unfoldable pub midLine : List ℕ → ℕ → ℕ
+midLine s i = cond (eqb i 0 || eqb (getD s (i - 1) 0) 10) 0 1
+
+-- a place behind a mark
+mid-line : (s : List ℕ) (at m : ℕ) → getD s at 0 ≡ m → (m ≡ 10 → ⊥) → midLine s (at + 1) ≡ 1
+unfolding midLine
+mid-line s at m e h =
+    let z : at + 1 - 1 ≡ at = omega arith in
+    rw (ne-eqb (at + 1) 0 (λ z. omega arith), z, e, ne-eqb m 10 h)
+
+-- starts that rise from k to j: an empty tag's row starts where its reading ends, behind its mark
+abbrev pub Rising : List ℕ → ℕ → ℕ → List Detail → Type 0
+Rising s k j [] = k ≤ j
+Rising s k j (d ∷ ds) = (k ≤ d .start) × (d .start < j + midLine s (d .start)) × (d .kind < refusalKind) × Rising s (d .start) j ds
 
 -- and are no more than the bytes
-abbrev pub Placed : ℕ → ℕ → List Detail → Type 0
-Placed k j ds = Rising k j ds × (k + length ds ≤ j)
+abbrev pub Placed : List ℕ → ℕ → ℕ → List Detail → Type 0
+Placed s k j ds = Rising s k j ds × (k + length ds ≤ j)
 
-pub rising-wide : (k j l m : ℕ) (ds : List Detail) → l ≤ k → j ≤ m → Rising k j ds → Rising l m ds
-rising-wide k j l m [] h g r = omega arith
-rising-wide k j l m (d ∷ ds) h g r = (omega (arith, r .0), rising-wide (d .start) j (d .start) m ds (omega arith) g (r .1))
+pub rising-wide : (s : List ℕ) (k j l m : ℕ) (ds : List Detail) → l ≤ k → j ≤ m → Rising s k j ds → Rising s l m ds
+rising-wide s k j l m [] h g r = omega arith
+rising-wide s k j l m (d ∷ ds) h g r = (omega (arith, r .0), omega (arith, r .1), r .2, rising-wide s (d .start) j (d .start) m ds (omega arith) g (r .3))
 
-rising-append : (k j l : ℕ) (xs ys : List Detail) → Rising k j xs → Rising j l ys → Rising k l (xs ++ ys)
-rising-append k j l [] ys p q = rising-wide j l k l ys p (omega arith) q
-rising-append k j l (d ∷ xs) ys p q = (p .0, rising-append (d .start) j l xs ys (p .1) q)
+rising-append : (s : List ℕ) (k j l : ℕ) (xs ys : List Detail) → j ≤ l → Rising s k j xs → Rising s j l ys → Rising s k l (xs ++ ys)
+rising-append s k j l [] ys h p q = rising-wide s j l k l ys p (omega arith) q
+rising-append s k j l (d ∷ xs) ys h p q = (p .0, omega (arith, p .1), p .2, rising-append s (d .start) j l xs ys h (p .3) q)
 
--- ---- answers, where w takes the rows out of what was read
+-- ---- answers on a text, where w takes the rows out of what was read
 
-abbrev pub Rowed : {A : Type 0} → (A → List Detail) → ℕ → Ans A → Type 0
-Rowed w k (To j x) = Placed k j (w x)
-Rowed w k Miss = Unit {0}
-Rowed w k (Hard i p) = Unit {0}
+abbrev pub Rowed : {A : Type 0} → List ℕ → (A → List Detail) → ℕ → Ans A → Type 0
+Rowed s w k (To j x) = Placed s k j (w x)
+Rowed s w k Miss = Unit {0}
+Rowed s w k (Hard i p) = Unit {0}
 
-pub record Holds {A : Type 0} (w : A → List Detail) (k : ℕ) (a : Ans A) : Type 0 where
-  pub rows : Rowed w k a
+pub record Holds {A : Type 0} (s : List ℕ) (w : A → List Detail) (k : ℕ) (a : Ans A) : Type 0 where
+  pub rows : Rowed s w k a
 
 -- the answer of a reader that makes rows
-abbrev pub Fits : ℕ → Rows → Type 0
-Fits k a = Holds (λ rs. rs) k a
+abbrev pub Fits : List ℕ → ℕ → Rows → Type 0
+Fits s k a = Holds s (λ rs. rs) k a
 
-module _ {A : Type 0} {w : A → List Detail} where
-  pub to-fits : (k j : ℕ) (x : A) → Placed k j (w x) → Holds w k (To j x)
+module _ {A : Type 0} {s : List ℕ} {w : A → List Detail} where
+  pub to-fits : (k j : ℕ) (x : A) → Placed s k j (w x) → Holds s w k (To j x)
   to-fits k j x h = record { rows = h }
 
-  pub miss-fits : (k : ℕ) → Holds w k Miss
+  pub miss-fits : (k : ℕ) → Holds s w k Miss
   miss-fits k = record { rows = tt }
 
-  pub hard-fits : (k i p : ℕ) → Holds w k (Hard i p)
+  pub hard-fits : (k i p : ℕ) → Holds s w k (Hard i p)
   hard-fits k i p = record { rows = tt }
 
   -- what was read
-  pub fits-at : (k j : ℕ) (x : A) (a : Ans A) → Holds w k a → a ≡ To j x → Placed k j (w x)
-  fits-at k j x a h e = subst (Holds w k) e h .rows
+  pub fits-at : (k j : ℕ) (x : A) (a : Ans A) → Holds s w k a → a ≡ To j x → Placed s k j (w x)
+  fits-at k j x a h e = subst (Holds s w k) e h .rows
 
-  pub fits-from : (i k : ℕ) (a : Ans A) → k ≤ i → Holds w i a → Holds w k a
-  fits-from i k (To j x) h r = to-fits k j x (rising-wide i j k j (w x) h (omega arith) (r .rows .0), omega arith)
+  pub fits-from : (i k : ℕ) (a : Ans A) → k ≤ i → Holds s w i a → Holds s w k a
+  fits-from i k (To j x) h r = to-fits k j x (rising-wide s i j k j (w x) h (omega arith) (r .rows .0), omega arith)
   fits-from i k Miss h r = miss-fits k
   fits-from i k (Hard l p) h r = hard-fits k l p
 
-  pub must-fits : (k at : ℕ) (a : Ans A) → Holds w k a → Holds w k (must at a)
+  pub must-fits : (k at : ℕ) (a : Ans A) → Holds s w k a → Holds s w k (must at a)
   unfolding must
   must-fits k at (To j x) r = r
   must-fits k at Miss r = hard-fits k 4 at
   must-fits k at (Hard i p) r = r
 
-  pub else-fits : (k : ℕ) (a b : Ans A) → Holds w k a → Holds w k b → Holds w k (a else b)
+  pub else-fits : (k : ℕ) (a b : Ans A) → Holds s w k a → Holds s w k b → Holds s w k (a else b)
   unfolding _else_
   else-fits k (To j x) b r q = r
   else-fits k Miss b r q = q
   else-fits k (Hard i p) b r q = r
 
 -- what follows may know the rows of the first
-pub then-rows : {A B : Type 0} (w : A → List Detail) {v : B → List Detail} (n i l k : ℕ) (a : Ans A) (g : ℕ → A → Ans B) → Reach n i a → Holds w l a
-    → ((j : ℕ) (x : A) → i ≤ j → j ≤ n → Placed l j (w x) → Holds v k (g j x)) → Holds v k (a then g)
+pub then-rows : {A B : Type 0} {s : List ℕ} (w : A → List Detail) {v : B → List Detail} (n i l k : ℕ) (a : Ans A) (g : ℕ → A → Ans B) → Reach n i a → Holds s w l a
+    → ((j : ℕ) (x : A) → i ≤ j → j ≤ n → Placed s l j (w x) → Holds s v k (g j x)) → Holds s v k (a then g)
 unfolding _then_
 then-rows w n i l k (To j x) g r h f = f j x (r .ends .0) (r .ends .1) (h .rows)
 then-rows w n i l k Miss g r h f = miss-fits k
 then-rows w n i l k (Hard m p) g r h f = hard-fits k m p
 
-pub then-fits : {A B : Type 0} {v : B → List Detail} (n i k : ℕ) (a : Ans A) (g : ℕ → A → Ans B) → Reach n i a
-    → ((j : ℕ) (x : A) → i ≤ j → j ≤ n → Holds v k (g j x)) → Holds v k (a then g)
+pub then-fits : {A B : Type 0} {s : List ℕ} {v : B → List Detail} (n i k : ℕ) (a : Ans A) (g : ℕ → A → Ans B) → Reach n i a
+    → ((j : ℕ) (x : A) → i ≤ j → j ≤ n → Holds s v k (g j x)) → Holds s v k (a then g)
 unfolding _then_
 then-fits n i k (To j x) g r f = f j x (r .ends .0) (r .ends .1)
 then-fits n i k Miss g r f = miss-fits k
@@ -96,25 +115,25 @@ then-fits n i k (Hard m p) g r f = hard-fits k m p
 
 -- ---- rows, and what follows
 
-pub and-fits : (n i k : ℕ) (a : Rows) (g : ℕ → Rows) → Reach n i a → Fits k a → ((j : ℕ) → i ≤ j → j ≤ n → Fits j (g j)) → Fits k (a and g)
+pub and-fits : {s : List ℕ} (n i k : ℕ) (a : Rows) (g : ℕ → Rows) → Reach n i a → Fits s k a → ((j : ℕ) → i ≤ j → j ≤ n → Fits s j (g j)) → Fits s k (a and g)
 unfolding _and_ more
-and-fits n i k (To j xs) g r u f = on (g j) (f j (r .ends .0) (r .ends .1))
+and-fits {s = s} n i k (To j xs) g r u f = on (g j) (f j (r .ends .0) (r .ends .1))
   where
-    on : (c : Rows) → Fits j c → Fits k (more xs c)
-    on (To l ys) h = to-fits k l (xs ++ ys) (rising-append k j l xs ys (u .rows .0) (h .rows .0), omega (arith, length-append xs ys))
+    on : (c : Rows) → Fits s j c → Fits s k (more xs c)
+    on (To l ys) h = to-fits k l (xs ++ ys) (rising-append s k j l xs ys (omega (arith, h .rows .1)) (u .rows .0) (h .rows .0), omega (arith, length-append xs ys))
     on Miss h = miss-fits k
     on (Hard l p) h = hard-fits k l p
 and-fits n i k Miss g r u f = miss-fits k
 and-fits n i k (Hard l p) g r u f = hard-fits k l p
 
-pub maybe-fits : (at : ℕ) (a : Rows) → Fits at a → Fits at (maybe at a)
+pub maybe-fits : {s : List ℕ} (at : ℕ) (a : Rows) → Fits s at a → Fits s at (maybe at a)
 unfolding maybe
 maybe-fits at (To j xs) r = r
 maybe-fits at Miss r = to-fits at at [] (omega arith)
 maybe-fits at (Hard l p) r = r
 
-pub many-fits : (n : ℕ) (f : ℕ → Rows) → ((i : ℕ) → i ≤ n → Reach n (i + 1) (f i)) → ((i : ℕ) → i ≤ n → Fits i (f i))
-    → (d i : ℕ) → i ≤ n → Fits i (many f d i)
+pub many-fits : {s : List ℕ} (n : ℕ) (f : ℕ → Rows) → ((i : ℕ) → i ≤ n → Reach n (i + 1) (f i)) → ((i : ℕ) → i ≤ n → Fits s i (f i))
+    → (d i : ℕ) → i ≤ n → Fits s i (many f d i)
 unfolding many
 many-fits n f r u zero i h = to-fits i i [] (omega arith)
 many-fits n f r u (suc d) i h =
@@ -146,17 +165,17 @@ must-bare at (To j x) h = h
 must-bare at Miss h = record { none = tt }
 must-bare at (Hard k p) h = h
 
-pub bare-fits : (n k : ℕ) (a : Rows) → Reach n k a → Bare a → Fits k a
+pub bare-fits : {s : List ℕ} (n k : ℕ) (a : Rows) → Reach n k a → Bare a → Fits s k a
 bare-fits n k (To j xs) r e = rw (e .none) (to-fits k j [] (omega arith))
 bare-fits n k Miss r e = miss-fits k
 bare-fits n k (Hard l p) r e = hard-fits k l p
 
 -- a token, and what follows
-pub bare-and : (n i k : ℕ) (a : Rows) (g : ℕ → Rows) → Reach n i a → Bare a → ((j : ℕ) → i ≤ j → j ≤ n → Fits k (g j)) → Fits k (a and g)
+pub bare-and : {s : List ℕ} (n i k : ℕ) (a : Rows) (g : ℕ → Rows) → Reach n i a → Bare a → ((j : ℕ) → i ≤ j → j ≤ n → Fits s k (g j)) → Fits s k (a and g)
 unfolding _and_ more
-bare-and n i k (To j xs) g r e f = on (g j) (f j (r .ends .0) (r .ends .1))
+bare-and {s = s} n i k (To j xs) g r e f = on (g j) (f j (r .ends .0) (r .ends .1))
   where
-    on : (c : Rows) → Fits k c → Fits k (more xs c)
+    on : (c : Rows) → Fits s k c → Fits s k (more xs c)
     on (To l ys) h = rw (e .none) h
     on Miss h = h
     on (Hard l p) h = h
@@ -176,10 +195,6 @@ module _ (s : List ℕ) (at : ℕ) where
   unfolding emptyLine
   empty-bare = token-bare _
 
-  pub string-bare : Bare (string s at)
-  unfolding string
-  string-bare = token-bare _
-
   pub account-bare : Bare (account s at)
   unfolding account named
   account-bare = on (accountAt s at)
@@ -193,14 +208,6 @@ module _ (s : List ℕ) (at : ℕ) where
   unfolding currency
   currency-bare = token-bare _
 
-  pub tag-bare : Bare (tag s at)
-  unfolding tag
-  tag-bare = token-bare _
-
-  pub link-bare : Bare (link s at)
-  unfolding link
-  link-bare = token-bare _
-
   pub word-bare : (w : List ℕ) → Bare (word w s at)
   unfolding word
   word-bare w = token-bare _
@@ -208,3 +215,27 @@ module _ (s : List ℕ) (at : ℕ) where
   pub byte-bare : (c : ℕ) → Bare (byte c s at)
   unfolding byte
   byte-bare c = test-bare (eqb (getD s at 0) c) (at + 1)
+
+-- ---- strings, tags and links, and what follows: it knows that behind their mark it is mid-line
+
+marked-and : (s : List ℕ) (n i k at m : ℕ) (r : Read) (g : ℕ → Rows) → (m ≡ 10 → ⊥) → Reach n i (token {A = Detail} (cond (eqb (getD s at 0) m) r Read.Miss))
+    → (midLine s (at + 1) ≡ 1 → (j : ℕ) → i ≤ j → j ≤ n → Fits s k (g j)) → Fits s k (token (cond (eqb (getD s at 0) m) r Read.Miss) and g)
+unfolding _and_ token
+marked-and s n i k at m r g h reach f = go (eqb (getD s at 0) m) refl reach
+  where
+    go : (t : Bool) → eqb (getD s at 0) m ≡ t → Reach n i (token {A = Detail} (cond t r Read.Miss)) → Fits s k (token (cond t r Read.Miss) and g)
+    go true e reach = bare-and n i k (token r) g reach (token-bare r) (f (mid-line s at m (eqb-true (getD s at 0) m e) h))
+    go false e reach = miss-fits k
+
+module _ (s : List ℕ) (n k at : ℕ) (f : ℕ → Rows) (u : midLine s (at + 1) ≡ 1 → (e : ℕ) → at + 1 ≤ e → e ≤ n → Fits s k (f e)) where
+  pub string-and : Reach n (at + 1) (string {A = Detail} s at) → Fits s k (string s at and f)
+  unfolding string stringAt
+  string-and r = marked-and s n (at + 1) k at 34 _ f (λ z. omega arith) r u
+
+  pub tag-and : Reach n (at + 1) (tag {A = Detail} s at) → Fits s k (tag s at and f)
+  unfolding tag markedAt
+  tag-and r = marked-and s n (at + 1) k at 35 _ f (λ z. omega arith) r u
+
+  pub link-and : Reach n (at + 1) (link {A = Detail} s at) → Fits s k (link s at and f)
+  unfolding link markedAt
+  link-and r = marked-and s n (at + 1) k at 94 _ f (λ z. omega arith) r u

@@ -1,5 +1,5 @@
 -- Rule 10: the rows of contents stand in order, and are no more than their bytes.
-use Prim.Native.Nat.{ℕ, suc, _+_, _≤_}
+use Prim.Native.Nat.{ℕ, suc, _+_, _≤_, _<_}
 use native.Mathlib.Omega.{arith}
 use mathlib.Core.List.{List}
 use lib.ListN.{length}
@@ -14,7 +14,7 @@ use Rattle.amount.specs.Expression.{expression}
 use Rattle.amount.specs.Amounts.{hardGap}
 use Rattle.amount.proofs.ExpressionEnds.{expression-reach}
 use Rattle.amount.proofs.AmountLaws.{hard-gap-reach}
-use Rattle.amount.proofs.RowCounts.{rising-wide, Fits, to-fits, fits-from, must-fits, then-rows, then-fits, and-fits, maybe-fits, many-fits, must-bare, bare-and, account-bare, currency-bare, byte-bare}
+use Rattle.amount.proofs.RowCounts.{refusalKind, rising-wide, Fits, to-fits, fits-from, must-fits, then-rows, then-fits, and-fits, maybe-fits, many-fits, must-bare, bare-and, account-bare, currency-bare, byte-bare}
 use Rattle.amount.proofs.AmountFew.{hard-gap-bare}
 use Rattle.posting.specs.Costs.{comma}
 use Rattle.posting.specs.Metadata.{quoted}
@@ -28,24 +28,24 @@ module _ (s : List ℕ) where
   N = length s
 
   -- a required gap before rows
-  pub hard-gap-and : (k at : ℕ) (f : ℕ → Rows) → at ≤ N → ((g : ℕ) → at + 1 ≤ g → g ≤ N → Fits k (f g)) → Fits k (hardGap s at and f)
+  pub hard-gap-and : (k at : ℕ) (f : ℕ → Rows) → at ≤ N → ((g : ℕ) → at + 1 ≤ g → g ≤ N → Fits s k (f g)) → Fits s k (hardGap s at and f)
   hard-gap-and k at f h u = bare-and N (at + 1) k (hardGap s at) f (hard-gap-reach s at h) (hard-gap-bare s at) u
 
-  pub hard-account-fits : (at : ℕ) → Fits at (hardAccount s at)
+  pub hard-account-fits : (at : ℕ) → Fits s at (hardAccount s at)
   unfolding hardAccount
   hard-account-fits at =
       bare-and N (at + 1) at (must at (account s at)) _ (must-reach N (at + 1) at _ (account-reach s at)) (must-bare at _ (account-bare s at)) (λ e p q.
       to-fits at e _ (omega arith))
 
   -- a string whose row is a span
-  pub text-fits : (k at : ℕ) → Fits at (quoted (span k) s at)
-  text-fits k at = quoted-fits s (span k) at at (λ e p. omega arith) (omega arith)
+  pub text-fits : (k at : ℕ) → k < refusalKind → Fits s at (quoted (span k) s at)
+  text-fits k at h = quoted-fits s (span k) at at (λ m e p. omega arith) (omega arith)
 
-  pub hard-string-fits : (at : ℕ) → Fits at (hardString s at)
+  pub hard-string-fits : (at : ℕ) → Fits s at (hardString s at)
   unfolding hardString
-  hard-string-fits at = must-fits at at _ (text-fits 34 at)
+  hard-string-fits at = must-fits at at _ (text-fits 34 at (omega arith))
 
-  pub tolerance-fits : (at : ℕ) → at ≤ N → Fits at (tolerance s at)
+  pub tolerance-fits : (at : ℕ) → at ≤ N → Fits s at (tolerance s at)
   unfolding tolerance
   tolerance-fits at h =
       let r = run-reach isBlank s at h in
@@ -54,7 +54,7 @@ module _ (s : List ℕ) where
       let w = run-reach isBlank s i q₁ in
       then-fits N (b + 1) at (expression s b) _ (expression-reach s b) (λ e v p₂ q₂. to-fits at e _ (omega arith)))
 
-  pub balance-of-fits : (at : ℕ) → Fits at (balanceOf s at)
+  pub balance-of-fits : (at : ℕ) → Fits s at (balanceOf s at)
   unfolding balanceOf
   balance-of-fits at =
       and-fits N (at + 1) at (hardAccount s at) _ (hard-account-reach s at) (hard-account-fits at) (λ a p₁ q₁.
@@ -63,40 +63,40 @@ module _ (s : List ℕ) where
       then-rows _ N e e a (maybe e (tolerance s e)) _ (optional-reach N e _ q₃ (tolerance-reach s e q₃)) (maybe-fits e _ (tolerance-fits e q₃)) (λ t ts p₄ q₄ r₄.
       hard-gap-and a t _ q₄ (λ c p₅ q₅.
       bare-and N (c + 1) a (must c (currency s c)) _ (must-reach N (c + 1) c _ (currency-reach s c)) (must-bare c _ (currency-bare s c)) (λ d p₆ q₆.
-      to-fits a d _ ((omega arith, rising-wide e t g d ts (omega arith) (omega arith) (r₄ .0)), omega arith)))))))
+      to-fits a d _ ((omega arith, omega arith, omega arith, rising-wide s e t g d ts (omega arith) (omega arith) (r₄ .0)), omega arith)))))))
 
-  pub one-currency-fits : (at : ℕ) → Fits at (oneCurrency s at)
+  pub one-currency-fits : (at : ℕ) → Fits s at (oneCurrency s at)
   unfolding oneCurrency
   one-currency-fits at = bare-and N (at + 1) at (currency s at) _ (currency-reach s at) (currency-bare s at) (λ e p q. to-fits at e _ (omega arith))
 
-  pub further-fits : (at : ℕ) → at ≤ N → Fits at (further s at)
+  pub further-fits : (at : ℕ) → at ≤ N → Fits s at (further s at)
   unfolding further
   further-fits at h = bare-and N (at + 1) at (comma s at) _ (comma-reach s at h) (comma-bare s at) (λ j p q. fits-from j at _ (omega arith) (one-currency-fits j))
 
-  pub currencies-fits : (at : ℕ) → Fits at (currencies s at)
+  pub currencies-fits : (at : ℕ) → Fits s at (currencies s at)
   unfolding currencies
   currencies-fits at =
       and-fits N (at + 1) at (oneCurrency s at) _ (one-currency-reach s at) (one-currency-fits at) (λ e p q.
       many-fits N (further s) (further-reach s) further-fits (suc N) e q)
 
-  pub booking-fits : (at : ℕ) → at ≤ N → Fits at (booking s at)
+  pub booking-fits : (at : ℕ) → at ≤ N → Fits s at (booking s at)
   unfolding booking
-  booking-fits at h = spaced-fits s _ (text-fits 32) at h
+  booking-fits at h = spaced-fits s _ (λ i. text-fits 32 i (omega arith)) at h
 
-  pub open-of-fits : (at : ℕ) → Fits at (openOf s at)
+  pub open-of-fits : (at : ℕ) → Fits s at (openOf s at)
   unfolding openOf
   open-of-fits at =
       and-fits N (at + 1) at (hardAccount s at) _ (hard-account-reach s at) (hard-account-fits at) (λ a p₁ q₁.
       and-fits N a a (maybe a _) _ (optional-reach N a _ q₁ (spaced-reach s (currencies s) (currencies-reach s) a q₁))
       (maybe-fits a _ (spaced-fits s (currencies s) currencies-fits a q₁)) (λ c p₂ q₂. maybe-fits c _ (booking-fits c q₂)))
 
-  pub pad-of-fits : (at : ℕ) → Fits at (padOf s at)
+  pub pad-of-fits : (at : ℕ) → Fits s at (padOf s at)
   unfolding padOf
   pad-of-fits at =
       and-fits N (at + 1) at (hardAccount s at) _ (hard-account-reach s at) (hard-account-fits at) (λ a p₁ q₁.
       hard-gap-and a a _ q₁ (λ g p₂ q₂. fits-from g a _ (omega arith) (hard-account-fits g)))
 
-  pub event-of-fits : (at : ℕ) → Fits at (eventOf s at)
+  pub event-of-fits : (at : ℕ) → Fits s at (eventOf s at)
   unfolding eventOf
   event-of-fits at =
       and-fits N (at + 1) at (hardString s at) _ (hard-string-reach s at) (hard-string-fits at) (λ a p₁ q₁.

@@ -130,7 +130,7 @@ module _ (s : List ℕ) where
       (token-miss Read.Miss (commaAt s (length s)) (comma-past s (length s) (blanks s (length s)) refl (rw (run-ends isBlank s (length s) (omega arith)) (omega arith))) (oneCurrency s) refl)
 
   pub further-stepping : Stepping (length s) (further s)
-  further-stepping = record { reach = further-reach s; fits = further-fits s; ends = further-end }
+  further-stepping = record { text = s; reach = further-reach s; fits = further-fits s; ends = further-end }
 
   pub furthers-start : (base at : ℕ) (o : Out) (t : List ℕ) → at ≤ length s → o .rows ≤ at → Runs base (length s) (further s) (furthers s at) o t at o t
   unfolding furthers

@@ -118,7 +118,7 @@ module _ (base : ℕ) (o : Out) (t v : List ℕ) (r : Ran) (a : Rows) (D : Did b
       go b ds p (refuses k n) = absurd (let w : _≡_ {A = ℕ} 0 1 = cc in omega arith)
 
   -- no more rows than bytes
-  pub no-more : (n i j : ℕ) → Reach n i a → Fits j a → o .rows ≤ j → (e ≤ n) × (m .rows ≤ e)
+  pub no-more : {s : List ℕ} (n i j : ℕ) → Reach n i a → Fits s j a → o .rows ≤ j → (e ≤ n) × (m .rows ≤ e)
   no-more n i j R F h =
       let z = was-read base o t v r a e m D q in
       let l = fits-at j e (z .0) a F (z .1) in

@@ -129,9 +129,9 @@ content-reach k s at =
     by-kind (Reach (length s) (at + 1)) k s at (price-of-reach s at) (balance-of-reach s at) (open-of-reach s at) (hard-account-reach s at) (pad-of-reach s at)
     (hard-currency-reach s at) (event-of-reach s at)
 
-content-fits : (k : ℕ) (s : List ℕ) (at : ℕ) → Fits at (contentOf k s at)
+content-fits : (k : ℕ) (s : List ℕ) (at : ℕ) → Fits s at (contentOf k s at)
 content-fits k s at =
-    by-kind (Fits at) k s at (price-of-fits s at) (balance-of-fits s at) (open-of-fits s at) (hard-account-fits s at) (pad-of-fits s at) (hard-currency-fits s at)
+    by-kind (Fits s at) k s at (price-of-fits s at) (balance-of-fits s at) (open-of-fits s at) (hard-account-fits s at) (pad-of-fits s at) (hard-currency-fits s at)
     (event-of-fits s at)
 
 -- the content, its line end and metadata: c is what the code answered to the content, l to the line end

@@ -1,14 +1,16 @@
--- The rows of plain reading: no more than the bytes, and each on its line.
-use Prim.Native.Nat.{ℕ, zero, suc, _+_, _≤_, _<_}
+-- The rows of plain reading: no more than the bytes, each on its line, and none of a refusal row's kind.
+use Prim.Native.Nat.{ℕ, zero, suc, _+_, _-_, _≤_, _<_}
 use native.Mathlib.Nat.{zero-add, add-zero, add-assoc}
 use native.Mathlib.Omega.{arith}
 use mathlib.Core.Path.{_≡_, refl, sym, _∙_, ap, subst}
 use mathlib.Core.Bool.{Bool, true, false, cond}
 use mathlib.Core.List.{List, [], _∷_, _++_, map}
+use borrow.Author.Tests.{ne-eqb}
 use lib.Dec.{ltb}
-use lib.ListN.{length, take, drop, length-append, length-map, take-append-drop}
-use lib.Seq.{length-take-le, take-append-le, take-append-add}
+use lib.ListN.{length, getD, take, drop, length-append, length-map, take-append-drop, List·getD-append}
+use lib.Seq.{drop-at, getD-drop, length-take-le, take-append-le, take-append-add}
 use Rattle.text.specs.Permitted.{clean}
+use Rattle.amount.proofs.RowCounts.{refusalKind, midLine}
 use Rattle.row.specs.declared.table.Row.{Row}
 use Rattle.row.specs.Row.{feeds}
 use Rattle.row.proofs.LineLaws.{feeds-append}
@@ -38,41 +40,79 @@ read-refuse f a l (b ∷ s) k p h e = rw (e, readFrom)
 
 -- ---- rows of a text that starts at place a and line l
 
-pub record Kept (a l : ℕ) (s : List ℕ) (rs : List Row) : Type 0 where
+pub record Kept (top a l : ℕ) (s : List ℕ) (rs : List Row) : Type 0 where
   pub few : length rs ≤ length s
-  pub lines : Each (OnLine a l s) rs
+  pub lines : Each (OnLine top a l s) rs
 
-pub kept-move : (a l b m : ℕ) (s : List ℕ) (rs : List Row) → Kept b m s rs → Kept (a + b) (l + m) s (moved a l rs)
+-- moved, and under a higher bound of kinds
+pub kept-move : (top high a l b m : ℕ) (s : List ℕ) (rs : List Row) → top ≤ high → Kept top b m s rs → Kept high (a + b) (l + m) s (moved a l rs)
 unfolding move
-kept-move a l b m s rs k = record { few = rw length-map (k .few); lines = each rs (k .lines) }
+kept-move top high a l b m s rs g k = record { few = rw length-map (k .few); lines = each rs (k .lines) }
   where
-    each : (rs : List Row) → Each (OnLine b m s) rs → Each (OnLine (a + b) (l + m) s) (moved a l rs)
+    each : (rs : List Row) → Each (OnLine top b m s) rs → Each (OnLine high (a + b) (l + m) s) (moved a l rs)
     each [] h = tt
-    each (r ∷ rs) (h, hs) = (record { into = h .into; inside = h .inside; place = omega (arith, h .place); lines = omega (arith, h .lines) }, each rs hs)
+    each (r ∷ rs) (h, hs) = (
+      record {
+        into = h .into;
+        inside = h .inside;
+        early = h .early;
+        place = omega (arith, h .place);
+        lines = omega (arith, h .lines);
+        kind = omega (arith, h .kind);
+      },
+      each rs hs,
+    )
 
-pub kept-append : (a l : ℕ) (u v : List ℕ) (xs ys : List Row) → Kept a l u xs → Kept (a + length u) (l + feeds u) v ys → Kept a l (u ++ v) (xs ++ ys)
-kept-append a l u v xs ys k j = record { few = simp length-append (omega (arith, k .few, j .few)); lines = first xs (k .lines) }
+mid-none : (s : List ℕ) → midLine s 0 ≡ 0
+unfolding midLine
+mid-none s = refl
+
+-- a place of the first or of the second text
+mid-first : (u v : List ℕ) (i : ℕ) → i ≤ length u → midLine (u ++ v) i ≡ midLine u i
+unfolding midLine
+mid-first u v zero h = refl
+mid-first u v (suc i) h = let z : suc i - 1 ≡ i = omega arith in rw (z, List·getD-append u v 0 i (omega arith))
+
+mid-second : (u v : List ℕ) (i : ℕ) → 0 < i → midLine (u ++ v) (length u + i) ≡ midLine v i
+unfolding midLine
+mid-second u v i h =
+    let z : length u + i - 1 ≡ length u + (i - 1) = omega arith in
+    let b : getD (u ++ v) (length u + (i - 1)) 0 ≡ getD v (i - 1) 0 =
+    sym (getD-drop (length u) (u ++ v) (i - 1) 0) ∙ ap (λ (w : List ℕ). getD w (i - 1) 0) (drop-at u v (length u) refl) in
+    rw (ne-eqb i 0 (λ e. omega arith), ne-eqb (length u + i) 0 (λ e. omega arith), z, b)
+
+pub kept-append : (top a l : ℕ) (u v : List ℕ) (xs ys : List Row) → Kept top a l u xs → Kept top (a + length u) (l + feeds u) v ys
+    → Kept top a l (u ++ v) (xs ++ ys)
+kept-append top a l u v xs ys k j = record { few = simp length-append (omega (arith, k .few, j .few)); lines = first xs (k .lines) }
   where
-    rest : (ys : List Row) → Each (OnLine (a + length u) (l + feeds u) v) ys → Each (OnLine a l (u ++ v)) ys
+    second-early : (i : ℕ) → i < length v + midLine v i → length u + i < length (u ++ v) + midLine (u ++ v) (length u + i)
+    second-early zero h = rw length-append (omega (arith, mid-none v))
+    second-early (suc i) h = rw (length-append, mid-second u v (suc i) (omega arith)) (omega arith)
+
+    rest : (ys : List Row) → Each (OnLine top (a + length u) (l + feeds u) v) ys → Each (OnLine top a l (u ++ v)) ys
     rest [] h = tt
     rest (r ∷ ys) (h, hs) = (
       record {
         into = length u + h .into;
         inside = rw length-append (omega (arith, h .inside));
+        early = second-early (h .into) (h .early);
         place = omega (arith, h .place);
         lines = rw (take-append-add, feeds-append) (omega (arith, h .lines));
+        kind = h .kind;
       },
       rest ys hs,
     )
 
-    first : (xs : List Row) → Each (OnLine a l u) xs → Each (OnLine a l (u ++ v)) (xs ++ ys)
+    first : (xs : List Row) → Each (OnLine top a l u) xs → Each (OnLine top a l (u ++ v)) (xs ++ ys)
     first [] h = rest ys (j .lines)
     first (r ∷ xs) (h, hs) = (
       record {
         into = h .into;
         inside = rw length-append (omega (arith, h .inside));
+        early = rw (length-append, mid-first u v (h .into) (h .inside)) (omega (arith, h .early));
         place = h .place;
         lines = rw (take-append-le (h .into) u v (h .inside)) (h .lines);
+        kind = h .kind;
       },
       first xs hs,
     )
@@ -83,45 +123,45 @@ abbrev pub Accepts : (List Row → Type 0) → Reading → Type 0
 Accepts P (accepted rs) = P rs
 Accepts P (denied n p) = Unit {0}
 
-after-kept : (a l : ℕ) (u v : List ℕ) (xs : List Row) (w : Reading) → Kept a l u xs → Accepts (Kept (a + length u) (l + feeds u) v) w
-    → Accepts (Kept a l (u ++ v)) (after xs w)
-after-kept a l u v xs (accepted ys) k j = kept-append a l u v xs ys k j
+after-kept : (a l : ℕ) (u v : List ℕ) (xs : List Row) (w : Reading) → Kept refusalKind a l u xs → Accepts (Kept refusalKind (a + length u) (l + feeds u) v) w
+    → Accepts (Kept refusalKind a l (u ++ v)) (after xs w)
+after-kept a l u v xs (accepted ys) k j = kept-append refusalKind a l u v xs ys k j
 after-kept a l u v xs (denied n p) k j = tt
 
-entry-kept : (a l : ℕ) (s : List ℕ) (n : ℕ) (rs : List Row) → entryOf s ≡ got n rs → Kept a l (take n s) (moved a l rs)
+entry-kept : (a l : ℕ) (s : List ℕ) (n : ℕ) (rs : List Row) → entryOf s ≡ got n rs → Kept refusalKind a l (take n s) (moved a l rs)
 entry-kept a l s n rs e =
     rw (add-zero a, add-zero l) at
-    (kept-move a l 0 0 (take n s) rs
+    (kept-move refusalKind refusalKind a l 0 0 (take n s) rs (omega arith)
     (record { few = rw (length-take-le n s (entry-sound s n rs e .1)) (entry-few s n rs e); lines = entry-lines s n rs e }))
 
-read-step : (f a l : ℕ) (s : List ℕ) → 0 < length s → ((b m : ℕ) (z : List ℕ) → Accepts (Kept b m z) (readFrom f b m z))
-    → Accepts (Kept a l s) (readFrom (suc f) a l s)
+read-step : (f a l : ℕ) (s : List ℕ) → 0 < length s → ((b m : ℕ) (z : List ℕ) → Accepts (Kept refusalKind b m z) (readFrom f b m z))
+    → Accepts (Kept refusalKind a l s) (readFrom (suc f) a l s)
 read-step f a l s h ih = go (entryOf s) refl
   where
-    go : (r : Reads) → entryOf s ≡ r → Accepts (Kept a l s) (readFrom (suc f) a l s)
+    go : (r : Reads) → entryOf s ≡ r → Accepts (Kept refusalKind a l s) (readFrom (suc f) a l s)
     go (got n rs) e =
         rw (read-got f a l s n rs h e)
-        (subst (λ z. Accepts (Kept a l z) (after (moved a l rs) (readFrom f (a + n) (l + feeds (take n s)) (drop n s)))) (take-append-drop n s)
+        (subst (λ z. Accepts (Kept refusalKind a l z) (after (moved a l rs) (readFrom f (a + n) (l + feeds (take n s)) (drop n s)))) (take-append-drop n s)
         (after-kept a l (take n s) (drop n s) (moved a l rs) (readFrom f (a + n) (l + feeds (take n s)) (drop n s)) (entry-kept a l s n rs e)
         (rw (length-take-le n s (entry-sound s n rs e .1)) (ih (a + n) (l + feeds (take n s)) (drop n s)))))
     go (refuse k p) e = rw (read-refuse f a l s k p h e) tt
 
-pub read-kept : (f a l : ℕ) (s : List ℕ) → Accepts (Kept a l s) (readFrom f a l s)
+pub read-kept : (f a l : ℕ) (s : List ℕ) → Accepts (Kept refusalKind a l s) (readFrom f a l s)
 unfolding readFrom
 read-kept zero a l s = record { few = omega arith; lines = tt }
 read-kept (suc f) a l [] = record { few = omega arith; lines = tt }
 read-kept (suc f) a l (c ∷ s) = read-step f a l (c ∷ s) (omega arith) (λ b m z. read-kept f b m z)
 
-pub part-at-kept : (a l : ℕ) (s : List ℕ) → Accepts (Kept a l s) (partAt a l s)
+pub part-at-kept : (a l : ℕ) (s : List ℕ) → Accepts (Kept refusalKind a l s) (partAt a l s)
 unfolding partAt
 part-at-kept a l s = go (ltb (clean s) (length s))
   where
-    go : (b : Bool) → Accepts (Kept a l s) (cond b (denied 2 (a + clean s)) (readFrom (length s) a l s))
+    go : (b : Bool) → Accepts (Kept refusalKind a l s) (cond b (denied 2 (a + clean s)) (readFrom (length s) a l s))
     go true = tt
     go false = read-kept (length s) a l s
 
-pub part-kept : (s : List ℕ) (rs : List Row) → part s ≡ accepted rs → Kept 0 1 s rs
-part-kept s rs e = subst (Accepts (Kept 0 1 s)) e (part-at-kept 0 1 s)
+pub part-kept : (s : List ℕ) (rs : List Row) → part s ≡ accepted rs → Kept refusalKind 0 1 s rs
+part-kept s rs e = subst (Accepts (Kept refusalKind 0 1 s)) e (part-at-kept 0 1 s)
 
 pub part-few : (s : List ℕ) (rs : List Row) → part s ≡ accepted rs → length rs ≤ length s
 part-few s rs e = part-kept s rs e .few

@@ -8,6 +8,7 @@ use borrow.Author.Tests.{le-leb, lt-leb, lt-ltb, le-ltb}
 use borrow.Rule.Slice.PartMut.{putMid}
 use lib.ListN.{length, length-map, take, drop, length-take, drop-of-length-le}
 use Rattle.text.specs.Permitted.{clean}
+use Rattle.amount.proofs.RowCounts.{refusalKind}
 use Rattle.row.specs.declared.table.Row.{Row}
 use Rattle.row.specs.Row.{pour, rowsBytes}
 use Rattle.row.specs.steps.Writing.{Poured}
@@ -82,7 +83,7 @@ module _ (s : List ℕ) (n : ℕ) (l : length s ≤ 16777216) (c : length s ≤ 
         ∙ ap (λ k. linesSet s n (putMid 0 k t v)) z
         ∙ ap (linesSet s n) (filled n (map (withLine 0) rs) t v (was-whole .2 ∙ sym (length-map rs (withLine 0))) h y)
         ∙ ap (λ k. linesSet s k (pour (map (withLine 0) rs) t)) (was-whole .2)
-        ∙ lines-left s rs t (part-kept s rs (part-scanned 0 s c ∙ was-whole .1)) l room
+        ∙ lines-left refusalKind s rs t (part-kept s rs (part-scanned 0 s c ∙ was-whole .1)) l room
         ∙ ap (λ x. left x t) (sym plain-whole)
 
 pub ruleset written-laws = (written-full, written-none, written-rows, written-table)

@@ -31,7 +31,7 @@ use Rattle.ledger.proofs.EntryPlaces.{entry-place}
 -- ---- one entry of a scan
 
 -- the rest of a text, as the code lends it on
-rest-of : (s : List ℕ) (at : ℕ) → take (length s - at) (drop at s) ≡ drop at s
+pub rest-of : (s : List ℕ) (at : ℕ) → take (length s - at) (drop at s) ≡ drop at s
 rest-of s at = take-all (length s - at) (drop at s) (rw length-drop (omega arith))
 
 -- the rows that are written are the entry's, moved and with no line

@@ -1,3 +1,4 @@
 pub mod NumberLaws
 pub mod Unique
 pub mod PacketLaws
+pub mod EditLaws

@@ -8,6 +8,7 @@ use access::tables;
 use bus::reader;
 use bus::writer;
 use decimal::Form;
+use edit::reread;
 use ledger::read;
 use recovery::recover;
 use reply::Evaluated;
@@ -16,6 +17,7 @@ use reply::Part;
 use reply::Reply;
 ghost use Rattle.ledger.specs.Plain.{plain};
 ghost use Rattle.recovery.specs.Recovering.{recovered};
+ghost use Rattle.edit.specs.Edits.{editing};
 ghost use Rattle.lumbrisse.specs.Promises.{TablePromise, ContentPromise, ExpressionPromise, TagPromise, SpanPromise, PacketPromise, StepPromise};
 
 // Plain reading: the rows' count, or a refusal.
@@ -33,6 +35,24 @@ pub extern "C" fn lumbrisse_recover(ledger: &[u8], table: &mut [u8]) -> Reply
     ensures { λ r. ⌜ TablePromise (recovered (now (ledger .entry))) (now (table .entry)) r (now (table .exit)) ⌝ }
 {
     let a = recover::recover(ledger, table);
+    reply::reply_of(a)
+}
+
+// Recovering reading of a ledger of which one block, from `start` to `end`, is replaced by new bytes, from the old
+// ledger and its first k rows (M-109): only the new bytes are read. The rows' count, or a refusal (1, 10 or 9).
+#[no_mangle]
+pub extern "C" fn lumbrisse_edit(
+    old: &[u8],
+    rows: &[u8],
+    k: usize,
+    start: usize,
+    end: usize,
+    new: &[u8],
+    table: &mut [u8],
+) -> Reply
+    ensures { λ r. ⌜ TablePromise (editing (now (old .entry)) (now (rows .entry)) k start end (now (new .entry))) (now (table .entry)) r (now (table .exit)) ⌝ }
+{
+    let a = reread::edit(old, rows, k, start, end, new, table);
     reply::reply_of(a)
 }
 

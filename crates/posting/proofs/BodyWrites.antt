@@ -91,7 +91,7 @@ module _ (s : List ℕ) where
   body-end = rw (posting-end, empty-end)
 
   pub body-stepping : Stepping (length s) (bodyStep s)
-  body-stepping = record { reach = body-step-reach s; fits = body-step-fits s; ends = body-end }
+  body-stepping = record { text = s; reach = body-step-reach s; fits = body-step-fits s; ends = body-end }
 
   pub body-start : (base at : ℕ) (o : Out) (t : List ℕ) → at ≤ length s → o .rows ≤ at → Runs base (length s) (bodyStep s) (body s at) o t at o t
   unfolding body

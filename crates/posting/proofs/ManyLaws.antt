@@ -18,8 +18,9 @@ use Rattle.row.proofs.DidLaws.{did-none, did-more, did-past, maybe-sure, was-re
 
 -- a reader for such a loop: it takes a byte at least, makes no more rows than it takes bytes, and misses at the end
 pub record Stepping (n : ℕ) (f : ℕ → Rows) : Type 0 where
+  pub text : List ℕ
   pub reach : (i : ℕ) → i ≤ n → Reach n (i + 1) (f i)
-  pub fits : (i : ℕ) → i ≤ n → Fits i (f i)
+  pub fits : (i : ℕ) → i ≤ n → Fits text i (f i)
   pub ends : f n ≡ Miss
 
 -- the loop's invariant at place i, where o is held and t is the table: whatever finishes the rest finishes what is asked

@@ -66,7 +66,7 @@ module _ (s : List ℕ) where
   step-end = rw (line-end, le-ltb (length s) (length s) (omega arith))
 
   pub meta-stepping : Stepping (length s) (metaStep s)
-  meta-stepping = record { reach = meta-step-reach s; fits = meta-step-fits s; ends = step-end }
+  meta-stepping = record { text = s; reach = meta-step-reach s; fits = meta-step-fits s; ends = step-end }
 
   pub meta-start : (base at : ℕ) (o : Out) (t : List ℕ) → at ≤ length s → o .rows ≤ at → Runs base (length s) (metaStep s) (metadata s at) o t at o t
   unfolding metadata

@@ -1,13 +1,13 @@
 -- Rules 12, 13 and 16: rows stand in order, and are no more than the bytes.
 use Prim.Native.Nat.{ℕ, suc, _+_, _-_, _≤_}
 use native.Mathlib.Omega.{arith}
-use mathlib.Core.Path.{refl}
+use mathlib.Core.Path.{_≡_, refl}
 use mathlib.Core.List.{List, [], _∷_}
 use lib.ListN.{length, getD}
 use Rattle.text.specs.Bytes.{isBlank}
 use Rattle.text.specs.Run.{blanks}
 use Rattle.text.specs.Answer.{To, Miss, Hard, _and_, more, maybe}
-use Rattle.text.specs.Leaves.{gap, lineEnd, emptyLine, date, string, account, currency, byte}
+use Rattle.text.specs.Leaves.{gap, lineEnd, emptyLine, date, account, currency, byte}
 use Rattle.text.proofs.Joins.{to-reach, reach-from}
 use Rattle.text.proofs.TokenEnds.{run-reach, gap-reach, line-reach, empty-reach, string-reach, account-reach, currency-reach, byte-reach, date-reach}
 use Rattle.amount.specs.declared.detail.Detail.{Detail}
@@ -16,7 +16,7 @@ use Rattle.amount.specs.Expression.{expression}
 use Rattle.amount.specs.Amounts.{amount}
 use Rattle.amount.proofs.ExpressionEnds.{expression-reach}
 use Rattle.amount.proofs.AmountLaws.{amount-reach}
-use Rattle.amount.proofs.RowCounts.{Rising, rising-wide, Holds, Fits, to-fits, fits-from, else-fits, then-rows, then-fits, and-fits, maybe-fits, many-fits, Bare, token-bare, test-bare, bare-fits, bare-and, gap-bare, line-bare, empty-bare, string-bare, account-bare, currency-bare, byte-bare}
+use Rattle.amount.proofs.RowCounts.{midLine, Rising, rising-wide, Holds, Fits, to-fits, fits-from, else-fits, then-rows, then-fits, and-fits, maybe-fits, many-fits, Bare, token-bare, test-bare, bare-fits, bare-and, gap-bare, line-bare, empty-bare, account-bare, currency-bare, byte-bare, string-and}
 use Rattle.amount.proofs.AmountFew.{amount-fits}
 use Rattle.posting.specs.Metadata.{key, quoted, value, metaLine, metaStep, metadata}
 use Rattle.posting.specs.Costs.{price, comma, Lot, inside, cost}
@@ -27,30 +27,30 @@ module _ (s : List ℕ) where
   abbrev N : ℕ
   N = length s
 
-  pub line-fits : (at : ℕ) → at ≤ N → Fits at (lineEnd s at)
+  pub line-fits : (at : ℕ) → at ≤ N → Fits s at (lineEnd s at)
   line-fits at h = bare-fits N at _ (line-reach s at h) (line-bare s at)
 
-  empty-fits : (at : ℕ) → at ≤ N → Fits at (emptyLine s at)
+  empty-fits : (at : ℕ) → at ≤ N → Fits s at (emptyLine s at)
   empty-fits at h = bare-fits N at _ (reach-from N (at + 1) at _ (omega arith) (empty-reach s at h)) (empty-bare s at)
 
   -- a gap before rows
-  pub gap-and : (k at : ℕ) (f : ℕ → Rows) → at ≤ N → ((g : ℕ) → at + 1 ≤ g → g ≤ N → Fits k (f g)) → Fits k (gap s at and f)
+  pub gap-and : (k at : ℕ) (f : ℕ → Rows) → at ≤ N → ((g : ℕ) → at + 1 ≤ g → g ≤ N → Fits s k (f g)) → Fits s k (gap s at and f)
   gap-and k at f h u = bare-and N (at + 1) k (gap s at) f (gap-reach s at h) (gap-bare s at) u
 
-  pub spaced-fits : (f : ℕ → Rows) → ((i : ℕ) → Fits i (f i)) → (at : ℕ) → at ≤ N → Fits at (gap s at and f)
+  pub spaced-fits : (f : ℕ → Rows) → ((i : ℕ) → Fits s i (f i)) → (at : ℕ) → at ≤ N → Fits s at (gap s at and f)
   spaced-fits f u at h = gap-and at at f h (λ g p q. fits-from g at (f g) (omega arith) (u g))
 
   -- ---- rule 16
 
-  pub quoted-fits : (row : ℕ → ℕ → Detail) (k at : ℕ) → ((e : ℕ) → at + 1 ≤ e → Rising k e (row (at + 1) (e - 1) ∷ [])) → k ≤ at → Fits k (quoted row s at)
+  pub quoted-fits : (row : ℕ → ℕ → Detail) (k at : ℕ) → (midLine s (at + 1) ≡ 1 → (e : ℕ) → at + 1 ≤ e → Rising s k e (row (at + 1) (e - 1) ∷ [])) → k ≤ at → Fits s k (quoted row s at)
   unfolding quoted
-  quoted-fits row k at f h = bare-and N (at + 1) k (string s at) _ (string-reach s at) (string-bare s at) (λ e p q. to-fits k e _ (f e p, omega arith))
+  quoted-fits row k at f h = string-and s N k at _ (λ m e p q. to-fits k e _ (f m e p, omega arith)) (string-reach s at)
 
   -- a metadata row starts at its key
-  pub value-fits : (k c at : ℕ) → k ≤ at → Fits k (value k c s at)
+  pub value-fits : (k c at : ℕ) → k ≤ at → Fits s k (value k c s at)
   unfolding value
   value-fits k c at h =
-      else-fits k _ _ (quoted-fits (named 35 k c) k at (λ e p. omega arith) h)
+      else-fits k _ _ (quoted-fits (named 35 k c) k at (λ m e p. omega arith) h)
       (else-fits k _ _
       (then-fits N (at + 1) k (expression s at) _ (expression-reach s at) (λ e v p q. to-fits k e _ (omega arith)))
       (bare-and N (at + 1) k (currency s at) _ (currency-reach s at) (currency-bare s at) (λ e p q. to-fits k e _ (omega arith))))
@@ -59,7 +59,7 @@ module _ (s : List ℕ) where
   unfolding key
   key-bare at = token-bare _
 
-  pub meta-line-fits : (at : ℕ) → at ≤ N → Fits at (metaLine s at)
+  pub meta-line-fits : (at : ℕ) → at ≤ N → Fits s at (metaLine s at)
   unfolding metaLine
   meta-line-fits at h =
       gap-and at at _ h (λ k p₁ q₁.
@@ -69,25 +69,25 @@ module _ (s : List ℕ) where
       gap-and k d _ q₃ (λ v p₄ q₄.
       and-fits N (v + 1) k (value k c s v) _ (value-reach s k c v) (value-fits k c v (omega arith)) (λ e p₅ q₅. line-fits e q₅))))))
 
-  pub meta-step-fits : (at : ℕ) → at ≤ N → Fits at (metaStep s at)
+  pub meta-step-fits : (at : ℕ) → at ≤ N → Fits s at (metaStep s at)
   unfolding metaStep
   meta-step-fits at h = else-fits at _ _ (meta-line-fits at h) (empty-fits at h)
 
-  pub metadata-fits : (at : ℕ) → at ≤ N → Fits at (metadata s at)
+  pub metadata-fits : (at : ℕ) → at ≤ N → Fits s at (metadata s at)
   unfolding metadata
   metadata-fits at h = many-fits N (metaStep s) (meta-step-reach s) meta-step-fits (suc N) at h
 
   -- ---- rule 12's price
 
-  pub price-fits : (at : ℕ) → Fits at (price s at)
+  pub price-fits : (at : ℕ) → Fits s at (price s at)
   unfolding price
   price-fits at =
       else-fits at _ _
       (bare-and N (at + 1) at (byte 64 s at) _ (byte-reach s at 64 (omega arith)) (byte-bare s at 64) (λ i p₁ q₁.
-      fits-from i at _ (omega arith) (spaced-fits (amount 29 s) (amount-fits s 29) i q₁)))
+      fits-from i at _ (omega arith) (spaced-fits (amount 29 s) (λ j. amount-fits s 29 j (omega arith)) i q₁)))
       (bare-and N (at + 1) at (byte 64 s at) _ (byte-reach s at 64 (omega arith)) (byte-bare s at 64) (λ i p₁ q₁.
       bare-and N (i + 1) at (byte 64 s i) _ (byte-reach s i 64 (omega arith)) (byte-bare s i 64) (λ j p₂ q₂.
-      fits-from j at _ (omega arith) (spaced-fits (amount 30 s) (amount-fits s 30) j q₂))))
+      fits-from j at _ (omega arith) (spaced-fits (amount 30 s) (λ i. amount-fits s 30 i (omega arith)) j q₂))))
 
   -- ---- rule 13
 
@@ -103,26 +103,26 @@ module _ (s : List ℕ) where
   abbrev pub held : Lot → List Detail
   held l = l .rows
 
-  pub inside-fits : (at : ℕ) → at ≤ N → Holds held at (inside s at)
+  pub inside-fits : (at : ℕ) → at ≤ N → Holds s held at (inside s at)
   unfolding inside
   inside-fits at h =
       else-fits at _ _
-      (then-rows _ N (at + 1) at at (amount 26 s at) _ (amount-reach s 26 at) (amount-fits s 26 at) (λ i rs p₁ q₁ r₁.
+      (then-rows _ N (at + 1) at at (amount 26 s at) _ (amount-reach s 26 at) (amount-fits s 26 at (omega arith)) (λ i rs p₁ q₁ r₁.
       then-fits N (i + 1) at (comma s i) _ (comma-reach s i q₁) (λ j _ p₂ q₂.
       then-fits N (j + 10) at (date s j) _ (date-reach s j q₂) (λ e d p₃ q₃.
-      to-fits at e _ (rising-wide at i at e rs (omega arith) (omega arith) (r₁ .0), omega arith)))))
+      to-fits at e _ (rising-wide s at i at e rs (omega arith) (omega arith) (r₁ .0), omega arith)))))
       (else-fits at _ _
       (then-fits N (at + 10) at (date s at) _ (date-reach s at h) (λ i d p₁ q₁.
       then-fits N (i + 1) at (comma s i) _ (comma-reach s i q₁) (λ j _ p₂ q₂.
-      then-rows _ N (j + 1) j at (amount 26 s j) _ (amount-reach s 26 j) (amount-fits s 26 j) (λ e rs p₃ q₃ r₃.
-      to-fits at e _ (rising-wide j e at e rs (omega arith) (omega arith) (r₃ .0), omega arith)))))
+      then-rows _ N (j + 1) j at (amount 26 s j) _ (amount-reach s 26 j) (amount-fits s 26 j (omega arith)) (λ e rs p₃ q₃ r₃.
+      to-fits at e _ (rising-wide s j e at e rs (omega arith) (omega arith) (r₃ .0), omega arith)))))
       (else-fits at _ _
-      (then-rows _ N (at + 1) at at (amount 26 s at) _ (amount-reach s 26 at) (amount-fits s 26 at) (λ e rs p₁ q₁ r₁. to-fits at e _ r₁))
+      (then-rows _ N (at + 1) at at (amount 26 s at) _ (amount-reach s 26 at) (amount-fits s 26 at (omega arith)) (λ e rs p₁ q₁ r₁. to-fits at e _ r₁))
       (else-fits at _ _
       (then-fits N (at + 10) at (date s at) _ (date-reach s at h) (λ e d p₁ q₁. to-fits at e _ (omega arith)))
       (to-fits at at _ (omega arith)))))
 
-  pub cost-fits : (at : ℕ) → Fits at (cost s at)
+  pub cost-fits : (at : ℕ) → Fits s at (cost s at)
   unfolding cost
   cost-fits at =
       bare-and N (at + 1) at (byte 123 s at) _ (byte-reach s at 123 (omega arith)) (byte-bare s at 123) (λ i p₁ q₁.
@@ -131,7 +131,7 @@ module _ (s : List ℕ) where
       then-rows held N b b at (inside s b) _ (inside-reach s b (r .1)) (inside-fits b (r .1)) (λ e l p₂ q₂ r₂.
       let w = run-reach isBlank s e q₂ in
       bare-and N (blanks s e + 1) at (byte 125 s (blanks s e)) _ (byte-reach s (blanks s e) 125 (omega arith)) (byte-bare s (blanks s e) 125) (λ f p₃ q₃.
-      to-fits at f _ ((omega arith, rising-wide b e at f (l .rows) (omega arith) (omega arith) (r₂ .0)), omega arith))))
+      to-fits at f _ ((omega arith, omega arith, omega arith, rising-wide s b e at f (l .rows) (omega arith) (omega arith) (r₂ .0)), omega arith))))
 
   -- ---- rule 12
 
@@ -139,17 +139,17 @@ module _ (s : List ℕ) where
   unfolding flag
   flag-bare at = test-bare (isFlag (getD s at 0)) (at + 1)
 
-  pub units-fits : (at : ℕ) → at ≤ N → Fits at (units s at)
+  pub units-fits : (at : ℕ) → at ≤ N → Fits s at (units s at)
   unfolding units
   units-fits at h =
       gap-and at at _ h (λ g p₁ q₁.
       fits-from g at _ (omega arith)
-      (and-fits N (g + 1) g (amount 26 s g) _ (amount-reach s 26 g) (amount-fits s 26 g) (λ e p₂ q₂.
+      (and-fits N (g + 1) g (amount 26 s g) _ (amount-reach s 26 g) (amount-fits s 26 g (omega arith)) (λ e p₂ q₂.
       and-fits N e e (maybe e _) _ (optional-reach N e _ q₂ (spaced-reach s (cost s) (cost-reach s) e q₂))
       (maybe-fits e _ (spaced-fits (cost s) cost-fits e q₂)) (λ f p₃ q₃.
       maybe-fits f _ (spaced-fits (price s) price-fits f q₃)))))
 
-  pub posting-line-fits : (at : ℕ) → at ≤ N → Fits at (postingLine s at)
+  pub posting-line-fits : (at : ℕ) → at ≤ N → Fits s at (postingLine s at)
   unfolding postingLine
   posting-line-fits at h =
       gap-and at at _ h (λ g p₁ q₁.
@@ -158,16 +158,16 @@ module _ (s : List ℕ) where
       and-fits N e at (To e _) _ (to-reach N e e _ (omega arith) q₃) (to-fits at e _ (omega arith)) (λ e p₄ q₄.
       and-fits N e e (maybe e (units s e)) _ (optional-reach N e _ q₄ (units-reach s e q₄)) (maybe-fits e _ (units-fits e q₄)) (λ m p₅ q₅. line-fits m q₅)))))
 
-  pub posting-fits : (at : ℕ) → at ≤ N → Fits at (posting s at)
+  pub posting-fits : (at : ℕ) → at ≤ N → Fits s at (posting s at)
   unfolding posting
   posting-fits at h = and-fits N (at + 1) at (postingLine s at) _ (posting-line-reach s at h) (posting-line-fits at h) (λ l p q. metadata-fits l q)
 
   -- ---- rule 11's postings and empty lines
 
-  pub body-step-fits : (at : ℕ) → at ≤ N → Fits at (bodyStep s at)
+  pub body-step-fits : (at : ℕ) → at ≤ N → Fits s at (bodyStep s at)
   unfolding bodyStep
   body-step-fits at h = else-fits at _ _ (posting-fits at h) (empty-fits at h)
 
-  pub body-fits : (at : ℕ) → at ≤ N → Fits at (body s at)
+  pub body-fits : (at : ℕ) → at ≤ N → Fits s at (body s at)
   unfolding body
   body-fits at h = many-fits N (bodyStep s) (body-step-reach s) body-step-fits (suc N) at h

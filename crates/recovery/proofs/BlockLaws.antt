@@ -59,7 +59,7 @@ ends-cons b (d ∷ v) h e l =
 abbrev pub Boundary : List ℕ → List ℕ → Type 0
 Boundary x y = Ends x × (isStart (getD y 0 0) ≡ true)
 
-cut-is : (b n : ℕ) → cuts b n ≡ true → (b ≡ 10) × (isStart n ≡ true)
+pub cut-is : (b n : ℕ) → cuts b n ≡ true → (b ≡ 10) × (isStart n ≡ true)
 cut-is b n e = go (eqb b 10) refl e
   where
     go : (t : Bool) → eqb b 10 ≡ t → cond t (isStart n) false ≡ true → (b ≡ 10) × (isStart n ≡ true)

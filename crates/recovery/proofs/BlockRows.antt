@@ -1,11 +1,12 @@
 -- The rows of a block: no more than its bytes, each on its line; and the code that reads a block.
-use Prim.Native.Nat.{ℕ, _+_, _<_}
+use Prim.Native.Nat.{ℕ, suc, _+_, _<_}
 use native.Mathlib.Nat.{add-zero}
 use native.Mathlib.Omega.{arith}
 use mathlib.Core.Path.{_≡_, refl, sym, _∙_, ap, subst}
 use mathlib.Core.List.{List, [], _∷_, map}
 use lib.ListN.{length, length-map}
 use Rattle.decimal.specs.Exact.{twosOf}
+use Rattle.amount.proofs.RowCounts.{refusalKind}
 use Rattle.row.specs.declared.table.Row.{Row}
 use Rattle.row.specs.Row.{rowOf, feeds, pour}
 use Rattle.ledger.specs.Plain.{move, moved, Reading, accepted, denied, partAt, part}
@@ -18,14 +19,17 @@ use Rattle.recovery.specs.Recovering.{blockRows}
 use Rattle.recovery.specs.steps.Front.{unlinedBlock, Front}
 use Rattle.recovery.proofs.FrontLaws.{front-poured, front-one}
 
-pub block-kept : (a l : ℕ) (x : List ℕ) → 0 < length x → Kept a (l + 1) x (blockRows a l (length x) (part x))
+pub block-kept : (a l : ℕ) (x : List ℕ) → 0 < length x → Kept (suc refusalKind) a (l + 1) x (blockRows a l (length x) (part x))
 unfolding blockRows rowOf feeds
 block-kept a l x h = go (part x) refl
   where
-    go : (w : Reading) → part x ≡ w → Kept a (l + 1) x (blockRows a l (length x) w)
-    go (accepted rs) e = rw (add-zero a) at (kept-move a l 0 1 x rs (part-kept x rs e))
+    go : (w : Reading) → part x ≡ w → Kept (suc refusalKind) a (l + 1) x (blockRows a l (length x) w)
+    go (accepted rs) e = rw (add-zero a) at (kept-move refusalKind (suc refusalKind) a l 0 1 x rs (omega arith) (part-kept x rs e))
     go (denied k p) e =
-        record { few = omega arith; lines = (record { into = 0; inside = omega arith; place = omega arith; lines = omega arith }, tt) }
+        record {
+          few = omega arith;
+          lines = (record { into = 0; inside = omega arith; early = omega arith; place = omega arith; lines = omega arith; kind = omega arith }, tt);
+        }
 
 -- ---- with no lines
 

@@ -8,6 +8,7 @@ use mir.Val.{Fits}
 use borrow.Rule.Slice.PartMut.{putMid}
 use lib.ListN.{length, take, drop, length-append, length-map, length-take, length-drop, take-append-drop, drop-of-length-le}
 use lib.Seq.{take-all, drop-drop, length-take-le}
+use Rattle.amount.proofs.RowCounts.{refusalKind}
 use Rattle.row.specs.declared.table.Row.{Row}
 use Rattle.row.specs.Row.{rowsBytes, placeOf, feeds}
 use Rattle.ledger.specs.Plain.{part}
@@ -42,19 +43,19 @@ unfolding recoverFrom
 recover-nil zero a l = refl
 recover-nil (suc f) a l = refl
 
-kept-step : (f a l : ℕ) (s : List ℕ) → 0 < length s → ((b m : ℕ) (z : List ℕ) → Kept b (m + 1) z (recoverFrom f b m z))
-    → Kept a (l + 1) s (recoverFrom (suc f) a l s)
+kept-step : (f a l : ℕ) (s : List ℕ) → 0 < length s → ((b m : ℕ) (z : List ℕ) → Kept (suc refusalKind) b (m + 1) z (recoverFrom f b m z))
+    → Kept (suc refusalKind) a (l + 1) s (recoverFrom (suc f) a l s)
 kept-step f a l s h ih =
     let x = firstBlock s in
     let n : length x ≡ blockLength s = length-block s in
     let m : l + 1 + feeds x ≡ l + feeds x + 1 = omega arith in
     let ys = recoverFrom f (a + blockLength s) (l + feeds x) (behind s) in
     rw (recover-step f a l s h)
-    (subst (λ z. Kept a (l + 1) z (blockRows a l (length x) (part x) ++ ys)) (take-append-drop (blockLength s) s)
-    (kept-append a (l + 1) x (behind s) (blockRows a l (length x) (part x)) ys (block-kept a l x (omega (arith, block-some s h)))
+    (subst (λ z. Kept (suc refusalKind) a (l + 1) z (blockRows a l (length x) (part x) ++ ys)) (take-append-drop (blockLength s) s)
+    (kept-append (suc refusalKind) a (l + 1) x (behind s) (blockRows a l (length x) (part x)) ys (block-kept a l x (omega (arith, block-some s h)))
     (rw (n, m) (ih (a + blockLength s) (l + feeds x) (behind s)))))
 
-pub recover-kept : (f a l : ℕ) (s : List ℕ) → Kept a (l + 1) s (recoverFrom f a l s)
+pub recover-kept : (f a l : ℕ) (s : List ℕ) → Kept (suc refusalKind) a (l + 1) s (recoverFrom f a l s)
 unfolding recoverFrom
 recover-kept zero a l s = record { few = omega arith; lines = tt }
 recover-kept (suc f) a l [] = record { few = omega arith; lines = tt }

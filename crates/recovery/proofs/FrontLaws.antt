@@ -12,12 +12,12 @@ use Rattle.row.specs.steps.Writing.{Poured}
 use Rattle.row.proofs.PourLaws.{length-rowBytes, length-pour, pour-all, pour-append, pourAt-zero, pourAt-at}
 use Rattle.recovery.specs.steps.Front.{Front}
 
-length-rowsBytes : (rs : List Row) → length (rowsBytes rs) ≡ length rs * 32
+pub length-rowsBytes : (rs : List Row) → length (rowsBytes rs) ≡ length rs * 32
 unfolding rowsBytes
 length-rowsBytes [] = refl
 length-rowsBytes (r ∷ rs) = rw (length-append, length-rowBytes, length-rowsBytes rs) (omega arith)
 
-rows-append : (xs ys : List Row) → rowsBytes (xs ++ ys) ≡ rowsBytes xs ++ rowsBytes ys
+pub rows-append : (xs ys : List Row) → rowsBytes (xs ++ ys) ≡ rowsBytes xs ++ rowsBytes ys
 unfolding rowsBytes
 rows-append [] ys = refl
 rows-append (r ∷ xs) ys = rw (rows-append xs ys, append-assoc)

@@ -1,11 +1,12 @@
 -- Recovering reading: its answers and its table, each from what the code knows where it answers.
-use Prim.Native.Nat.{ℕ, _*_, _-_, _/_, _≤_, _<_}
+use Prim.Native.Nat.{ℕ, suc, _*_, _-_, _/_, _≤_, _<_}
 use native.Mathlib.Omega.{arith}
 use mathlib.Core.Path.{_≡_, sym, _∙_, ap, subst}
 use mathlib.Core.List.{List, map}
 use borrow.Author.Tests.{le-leb, lt-leb}
 use borrow.Rule.Slice.PartMut.{putMid}
 use lib.ListN.{length, take, drop, length-map}
+use Rattle.amount.proofs.RowCounts.{refusalKind}
 use Rattle.row.specs.declared.table.Row.{Row}
 use Rattle.row.specs.Row.{pour}
 use Rattle.row.specs.steps.Sweep.{linesSet}
@@ -77,7 +78,7 @@ module _ (s : List ℕ) (l : length s ≤ 16777216) (n : ℕ) (e : n ≡ length 
         ∙ ap (λ x. linesSet s n (putMid 0 x t v)) z
         ∙ ap (linesSet s n) (front-filled (map (withLine 0) all-rows) n t v e (omega arith) (rw z at k) (subst (λ x. Front (map (withLine 0) all-rows) (take x (drop 0 t)) v) z p))
         ∙ ap (λ x. linesSet s x (pour (map (withLine 0) all-rows) t)) wanted
-        ∙ lines-left s all-rows t (recover-kept (length s) 0 0 s) l room
+        ∙ lines-left (suc refusalKind) s all-rows t (recover-kept (length s) 0 0 s) l room
         ∙ ap (λ x. left x t) (sym recovered-rows)
 
 pub ruleset recover-laws = (large-answer, large-left, short-answer, short-left, rows-answer, rows-left)

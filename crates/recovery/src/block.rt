@@ -14,7 +14,7 @@ ghost use Rattle.recovery.specs.Recovering.{blockLength};
 ghost use Rattle.recovery.specs.steps.Front.{unlinedBlock, Front};
 
 // Whether a line that starts with the byte starts at a boundary.
-fn is_start(b: u8) -> bool
+pub fn is_start(b: u8) -> bool
     ensures { λ r. ⌜ r ≡ isStart b ⌝ }
 {
     bytes::is_digit(b) | bytes::is_small(b)

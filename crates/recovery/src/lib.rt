@@ -1,3 +1,3 @@
 // Recovering reading.
-mod block;
+pub mod block;
 pub mod recover;

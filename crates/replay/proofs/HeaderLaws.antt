@@ -10,12 +10,12 @@ use Rattle.row.specs.Field.{fieldAt}
 use Rattle.replay.specs.Cases.{caseOf, mustOf}
 
 module _ (h : List ℕ) where
-  pub case-read : {k a b n m t : ℕ}
-      → k ≡ fieldAt h 0 4 → a ≡ fieldAt h 4 4 → b ≡ fieldAt h 8 4
+  pub case-read : {k a b c d n m t : ℕ}
+      → k ≡ fieldAt h 0 4 → a ≡ fieldAt h 4 4 → b ≡ fieldAt h 8 4 → c ≡ fieldAt h 12 4 → d ≡ fieldAt h 16 4
       → n ≡ fieldAt h 20 4 → m ≡ fieldAt h 24 4 → t ≡ fieldAt h 28 4
-      → record { call = k; a = a; b = b; first = n; second = m; lent = t } ≡ caseOf h
+      → record { call = k; a = a; b = b; c = c; d = d; first = n; second = m; lent = t } ≡ caseOf h
   unfolding caseOf
-  case-read ek ea eb en em et = rw (ek, ea, eb, en, em, et)
+  case-read ek ea eb ec ed en em et = rw (ek, ea, eb, ec, ed, en, em, et)
 
   pub must-read : {n p c v g : ℕ}
       → n ≡ fieldAt h 32 4 → p ≡ fieldAt h 36 4 → c ≡ fieldAt h 40 4 → v ≡ fieldAt h 48 8 → g ≡ cond (eqb (fieldAt h 0 4) 16) (fieldAt h 12 4) 0

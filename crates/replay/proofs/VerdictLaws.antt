@@ -58,9 +58,9 @@ pub ruleset text-laws = (text-compared, no-text)
 
 -- ---- the whole case
 
-module _ (c : Case) (must : Reply) (s u t after : List ℕ) (o : Outcome) (e : o ≡ outcome (c .call) (c .a) (c .b) s u t) where
+module _ (c : Case) (must : Reply) (s u t after : List ℕ) (o : Outcome) (e : o ≡ outcome c s u t) where
   pub judged-answered : (r : Reply) (x y : Bool) (w : List ℕ) (z : Alike)
-      → o ≡ Outcome.Answered r → x ≡ textSame c s u → w ≡ leftBy (c .call) (c .a) (c .b) s u t → y ≡ same w after → z ≡ alike r must x y
+      → o ≡ Outcome.Answered r → x ≡ textSame c s u → w ≡ leftBy c s u t → y ≡ same w after → z ≡ alike r must x y
       → Verdict.Compared z ≡ verdict c must s u t after
   unfolding verdict compared
   judged-answered r x y w z f g h i j = rw (← e, f, ← g, ← h, ← i, j)

@@ -4,9 +4,11 @@ use mathlib.Core.Bool.{Bool, cond, _||_}
 use mathlib.Core.List.{List, _++_}
 use lib.Dec.{eqb, leb}
 use lib.ListN.{length, take, drop}
-use Rattle.ledger.specs.Plain.{plain}
+use Rattle.row.specs.Row.{width}
+use Rattle.ledger.specs.Plain.{Reading, plain}
 use Rattle.ledger.specs.Answers.{answer, left}
 use Rattle.recovery.specs.Recovering.{recovered}
+use Rattle.edit.specs.Edits.{editing}
 use Rattle.decimal.specs.declared.Form.the-variants.{Exact, Rounding}
 use Rattle.access.specs.Single.{evaluated}
 use Rattle.access.specs.Contents.{contentAnswer, contentLeft}
@@ -16,6 +18,7 @@ use Rattle.bus.specs.Reading.{rowLeft, textLeft, stepAt}
 use Rattle.bus.specs.Writing.{written, writtenLeft}
 use Rattle.lumbrisse.specs.Numbers.{replyOf, writtenReply, forceReply, evaluatedOf, partOf, handedOf}
 use Rattle.lumbrisse.specs.declared.reply as box
+use Rattle.replay.specs.declared.case.Case.{Case}
 use Rattle.replay.specs.declared.call.Reply.{Reply}
 use Rattle.replay.specs.declared.call.Outcome.{Outcome}
 
@@ -46,6 +49,17 @@ abbrev pub steppedLeft : ℕ → ℕ → List ℕ → List ℕ → List ℕ
 steppedLeft a b s t =
     cond (leb b (length t)) (rowLeft (stepOf a b s t) (drop a s) (take b t) ++ textLeft (stepOf a b s t) (drop a s) (drop b t)) t
 
+-- an edit: the second text has the rows that are given in its first d bytes, and behind them the new bytes
+abbrev pub editOf : Case → List ℕ → List ℕ → Reading
+editOf c s u = editing s (take (c .d) u) (c .c) (c .a) (c .b) (drop (c .d) u)
+
+-- a case whose rows are longer than both is none
+abbrev pub edited : Case → List ℕ → List ℕ → List ℕ → Outcome
+edited c s u t = cond (leb (c .d) (length u)) (Outcome.Answered (ofReply (replyOf (answer (editOf c s u) (length t / width))))) Outcome.Unknown
+
+abbrev pub editedLeft : Case → List ℕ → List ℕ → List ℕ → List ℕ
+editedLeft c s u t = cond (leb (c .d) (length u)) (left (editOf c s u) t) t
+
 -- the calls of a single expression by their form; 12 and 13 are the second engine's (M-113), which answers as the first
 abbrev pub isRounding : ℕ → Bool
 isRounding k = eqb k 3 || eqb k 12
@@ -53,27 +67,30 @@ isRounding k = eqb k 3 || eqb k 12
 abbrev pub isExact : ℕ → Bool
 isExact k = eqb k 9 || eqb k 13
 
--- the call with a number k, of two numbers, two texts and a lent buffer
-unfoldable pub outcome : ℕ → ℕ → ℕ → List ℕ → List ℕ → List ℕ → Outcome
-outcome k a b s u t =
+-- the call of a case with two texts and a lent buffer
+unfoldable pub outcome : Case → List ℕ → List ℕ → List ℕ → Outcome
+outcome c s u t =
+    let k = c .call in
     let plainly = Outcome.Answered (ofReply (replyOf (answer (plain s) (length t / 32)))) in
     let recovering = Outcome.Answered (ofReply (replyOf (answer (recovered s) (length t / 32)))) in
     let single = Outcome.Answered (ofEvaluated (evaluatedOf (evaluated Rounding s))) in
     let singleExact = Outcome.Answered (ofEvaluated (evaluatedOf (evaluated Exact s))) in
     let content = Outcome.Answered (ofReply (writtenReply (contentAnswer s (length t)))) in
-    let part = Outcome.Answered (ofPart (partOf s a b)) in
-    let force = Outcome.Answered (ofReply (forceReply (inForce s t a u))) in
-    let packet = Outcome.Answered (ofReply (writtenReply (written s a u (length t)))) in
+    let part = Outcome.Answered (ofPart (partOf s (c .a) (c .b))) in
+    let force = Outcome.Answered (ofReply (forceReply (inForce s t (c .a) u))) in
+    let packet = Outcome.Answered (ofReply (writtenReply (written s (c .a) u (length t)))) in
     cond (isRounding k) single
     (cond (isExact k) singleExact
     (cond (eqb k 1) plainly
     (cond (eqb k 2) recovering
     (cond (eqb k 4) content
-    (cond (eqb k 5) part (cond (eqb k 6) force (cond (eqb k 15) packet (cond (eqb k 16) (stepped a b s t) Outcome.Unknown))))))))
+    (cond (eqb k 5) part (cond (eqb k 6) force (cond (eqb k 14) (edited c s u t) (cond (eqb k 15) packet (cond (eqb k 16) (stepped (c .a) (c .b) s t) Outcome.Unknown)))))))))
 
--- the lent buffer afterwards: both readings, string content, a packet and a step of its reader write
-unfoldable pub leftBy : ℕ → ℕ → ℕ → List ℕ → List ℕ → List ℕ → List ℕ
-leftBy k a b s u t =
+-- the lent buffer afterwards: both readings, string content, an edit, a packet and a step of its reader write
+unfoldable pub leftBy : Case → List ℕ → List ℕ → List ℕ → List ℕ
+leftBy c s u t =
+    let k = c .call in
     cond (eqb k 1) (left (plain s) t)
     (cond (eqb k 2) (left (recovered s) t)
-    (cond (eqb k 4) (contentLeft s t) (cond (eqb k 15) (writtenLeft s a u t) (cond (eqb k 16) (steppedLeft a b s t) t))))
+    (cond (eqb k 4) (contentLeft s t)
+    (cond (eqb k 14) (editedLeft c s u t) (cond (eqb k 15) (writtenLeft s (c .a) u t) (cond (eqb k 16) (steppedLeft (c .a) (c .b) s t) t)))))

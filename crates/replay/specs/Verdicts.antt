@@ -39,4 +39,4 @@ textSame c s u = cond (eqb (c .call) 5) (same (spanText s (c .a) (c .b)) u) true
 -- of a case with two texts and a lent buffer before and after the call
 unfoldable pub verdict : Case → Reply → List ℕ → List ℕ → List ℕ → List ℕ → Verdict
 verdict c must s u t after =
-    compared (outcome (c .call) (c .a) (c .b) s u t) must (textSame c s u) (same (leftBy (c .call) (c .a) (c .b) s u t) after)
+    compared (outcome c s u t) must (textSame c s u) (same (leftBy c s u t) after)

@@ -1,4 +1,6 @@
 // The calls that a box makes, each with its answer as four numbers.
+use crate::case::Case;
+use crate::change;
 use crate::display;
 use lumbrisse::reply;
 ghost use mathlib.Core.Path.{_≡_};
@@ -25,6 +27,8 @@ pub const STACKED: usize = 12;
 
 pub const STACKED_EXACT: usize = 13;
 
+pub const EDIT: usize = 14;
+
 pub const PACKET: usize = 15;
 
 pub const STEP: usize = 16;
@@ -45,7 +49,7 @@ pub enum Outcome {
     Unknown,
 }
 
-fn of_reply(r: reply::Reply) -> Outcome
+pub fn of_reply(r: reply::Reply) -> Outcome
     ensures { λ o. ⌜ o ≡ Outcome.Answered (ofReply r) ⌝ }
 {
     Outcome::Answered(Reply {
@@ -87,32 +91,26 @@ fn of_part(p: reply::Part) -> Outcome
     })
 }
 
-// The call with a number. A step of a packet's reader takes two buffers, and has `spare` for one of them.
-pub fn made(
-    call: usize,
-    a: usize,
-    b: usize,
-    first: &[u8],
-    second: &[u8],
-    lent: &mut [u8],
-    spare: &mut [u8],
-) -> Outcome
+// The call of a case. A step of a packet's reader takes two buffers, and has `spare` for one of them.
+pub fn made(c: Case, first: &[u8], second: &[u8], lent: &mut [u8], spare: &mut [u8]) -> Outcome
     requires { ⌜ length (now lent) ≤ length (now spare) ⌝ }
-    ensures answer { λ r. ⌜ r ≡ outcome call a b (now (first .entry)) (now (second .entry)) (now (lent .entry)) ⌝ }
-    ensures bytes { λ _. ⌜ now (lent .exit) ≡ leftBy call a b (now (first .entry)) (now (second .entry)) (now (lent .entry)) ⌝ }
+    ensures answer { λ r. ⌜ r ≡ outcome c (now (first .entry)) (now (second .entry)) (now (lent .entry)) ⌝ }
+    ensures bytes { λ _. ⌜ now (lent .exit) ≡ leftBy c (now (first .entry)) (now (second .entry)) (now (lent .entry)) ⌝ }
 {
+    let call = c.call;
     match call {
         PLAIN => of_reply(lumbrisse::lumbrisse_read(first, lent)),
         RECOVERING => of_reply(lumbrisse::lumbrisse_recover(first, lent)),
         SINGLE => of_evaluated(lumbrisse::lumbrisse_expression(first)),
         CONTENT => of_reply(lumbrisse::lumbrisse_content(first, lent)),
-        SPAN => of_part(lumbrisse::lumbrisse_span(first, a, b)),
-        FORCE => of_reply(lumbrisse::lumbrisse_tag_in_force(first, lent, a, second)),
+        SPAN => of_part(lumbrisse::lumbrisse_span(first, c.a, c.b)),
+        FORCE => of_reply(lumbrisse::lumbrisse_tag_in_force(first, lent, c.a, second)),
         SINGLE_EXACT => of_evaluated(lumbrisse::lumbrisse_expression_exact(first)),
         STACKED => of_evaluated(lumbrisse::lumbrisse_expression_stacked(first)),
         STACKED_EXACT => of_evaluated(lumbrisse::lumbrisse_expression_stacked_exact(first)),
-        PACKET => of_reply(lumbrisse::lumbrisse_packet_write(first, second, a, lent)),
-        STEP => display::stepped(first, a, b, lent, spare),
+        EDIT => change::edited(c, first, second, lent),
+        PACKET => of_reply(lumbrisse::lumbrisse_packet_write(first, second, c.a, lent)),
+        STEP => display::stepped(first, c.a, c.b, lent, spare),
         _ => Outcome::Unknown,
     }
 }

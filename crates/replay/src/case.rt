@@ -17,8 +17,11 @@ pub const MOST: usize = 65_536;
 
 pub struct Case {
     pub call: usize,
+    // The numbers that it takes.
     pub a: usize,
     pub b: usize,
+    pub c: usize,
+    pub d: usize,
     // The bytes of the first text, of the second, and of the lent buffer.
     pub first: usize,
     pub second: usize,
@@ -32,6 +35,8 @@ pub fn case_of(head: &[u8]) -> Case
         call: table::field_at(head, 0, 4),
         a: table::field_at(head, 4, 4),
         b: table::field_at(head, 8, 4),
+        c: table::field_at(head, 12, 4),
+        d: table::field_at(head, 16, 4),
         first: table::field_at(head, 20, 4),
         second: table::field_at(head, 24, 4),
         lent: table::field_at(head, 28, 4),

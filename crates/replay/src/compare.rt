@@ -75,7 +75,7 @@ pub fn judged(
     requires { ⌜ length (now lent) ≤ length (now spare) ⌝ }
     ensures { λ r. ⌜ r ≡ verdict c must (now (first .entry)) (now (second .entry)) (now (lent .entry)) (now (after .entry)) ⌝ }
 {
-    let o = call::made(c.call, c.a, c.b, first, second, lent, spare);
+    let o = call::made(c, first, second, lent, spare);
     match o {
         Outcome::Answered(r) => {
             let text = same_text(c, first, second);

@@ -3,6 +3,7 @@
 // Reading ends there: nothing says where the next case would start.
 mod call;
 mod case;
+mod change;
 mod compare;
 mod display;
 mod report;

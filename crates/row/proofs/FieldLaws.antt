@@ -109,6 +109,34 @@ get-bytes t at h ea eb ec ed =
       un-byte t (at + 3) 0 {j = at + 4} (omega arith) (omega arith),
     )
 
+-- a number of eight bytes, from its two halves
+pub get-halves : (t : List ℕ) (at : ℕ) {a b : ℕ} → at + 8 ≤ length t → a ≡ un (take 4 (drop at t)) → b ≡ un (take 4 (drop (at + 4) t))
+    → a + 4294967296 * b ≡ un (take 8 (drop at t))
+get-halves t at h ea eb =
+    omega (
+      arith,
+      un-byte t at 3 {j = at + 1} refl (omega arith),
+      un-byte t (at + 1) 2 {j = at + 2} (omega arith) (omega arith),
+      un-byte t (at + 2) 1 {j = at + 3} (omega arith) (omega arith),
+      un-byte t (at + 3) 0 {j = at + 4} (omega arith) (omega arith),
+      un-byte t at 7 {j = at + 1} refl (omega arith),
+      un-byte t (at + 1) 6 {j = at + 2} (omega arith) (omega arith),
+      un-byte t (at + 2) 5 {j = at + 3} (omega arith) (omega arith),
+      un-byte t (at + 3) 4 {j = at + 4} (omega arith) (omega arith),
+    )
+
+module _ (t : List ℕ) (h : (i : ℕ) → Fits w8 (getD t i 0)) (at : ℕ) where
+  half-lt : (i : ℕ) → un (take 4 (drop i t)) < 256 ^ 4
+  half-lt i = un-lt (drop i t) (λ j. rw getD-drop (omega (arith, h (i + j)))) 4
+
+  pub half-high : {b : ℕ} → b ≡ un (take 4 (drop (at + 4) t)) → Fits w64 (4294967296 * b)
+  half-high e = omega (arith, e, half-lt (at + 4))
+
+  pub halves-fit : {a b : ℕ} → a ≡ un (take 4 (drop at t)) → b ≡ un (take 4 (drop (at + 4) t)) → Fits w64 (a + 4294967296 * b)
+  halves-fit ea eb = omega (arith, ea, eb, half-lt at, half-lt (at + 4))
+
+pub ruleset halves = (get-halves, half-high, halves-fit)
+
 pub ruleset getting = (get-cast, get-none, get-byte, get-end, get-wide, get-more)
 
 -- what reading finds of what was written: the number's low bytes

@@ -1,5 +1,5 @@
 -- Laws of line feeds, and of the code that counts them.
-use Prim.Native.Nat.{ℕ, zero, suc, _+_, _-_, _≤_, _<_, zero-le}
+use Prim.Native.Nat.{ℕ, zero, suc, _+_, _-_, _^_, _≤_, _<_, zero-le}
 use native.Mathlib.Decide.{decLt}
 use native.Mathlib.Nat.{add-zero, zero-add, add-assoc}
 use native.Mathlib.Numerals.{add-one}
@@ -10,7 +10,9 @@ use mathlib.Core.List.{List, [], _∷_, _++_}
 use lib.Dec.{eqb, ltb}
 use borrow.Author.Tests.{lt-ltb, not-true, not-false}
 use lib.ListN.{length, getD, take, drop, length-take}
-use lib.Seq.{drop-cons, take-suc, take-all}
+use lib.Seq.{drop-cons, take-suc, take-all, take-add}
+use mir.Syntax.{w8, w64}
+use mir.Val.{Fits}
 use Rattle.text.specs.Bytes.{inLine}
 use Rattle.text.specs.Run.{runTo}
 use Rattle.text.proofs.TestLaws.{or-left, or-right}
@@ -75,7 +77,7 @@ module _ (s : List ℕ) where
 
 -- ---- up to a place
 
-feeds-le : (s : List ℕ) → feeds s ≤ length s
+pub feeds-le : (s : List ℕ) → feeds s ≤ length s
 unfolding feeds
 feeds-le [] = zero-le
 feeds-le (b ∷ s) = go (eqb b 10) (feeds-le s)
@@ -93,6 +95,33 @@ module _ (s : List ℕ) where
   feeds-to : (i : ℕ) → i < length s → feeds (take (i + 1) s) ≡ feeds (take i s) + cond (eqb (getD s i 0) 10) 1 0
   unfolding feeds
   feeds-to i h = rw (add-one, take-suc s i 0 h, feeds-append (take i s) (getD s i 0 ∷ []), add-zero (cond (eqb (getD s i 0) 10) 1 0))
+
+  -- those of the first i bytes were counted
+  module _ (i n : ℕ) (e : n ≡ feeds (take i s)) where
+    pub feeds-on : {m : ℕ} → i < length s → m ≡ cond (eqb (getD s i 0) 10) 1 0 → n + m ≡ feeds (take (i + 1) s)
+    feeds-on h em = rw (e, em) (sym (feeds-to i h))
+
+    pub feeds-room : {m : ℕ} → i < length s → length s ≤ 255 → m ≡ cond (eqb (getD s i 0) 10) 1 0 → Fits w8 (n + m)
+    feeds-room h l em = record { fits = omega (arith, feeds-on h em, feeds-le (take (i + 1) s), length-take (i + 1) s) }
+
+    pub feeds-all : length s ≤ i → n ≡ feeds s
+    feeds-all h = e ∙ ap feeds (take-all i s h)
+
+    pub feeds-few : length s ≤ i → n ≤ length s
+    feeds-few h = rw (feeds-all h) (feeds-le s)
+
+    -- those from i to j too
+    module _ (j x m : ℕ) (h : i < j) (ex : x ≡ feeds (take (j - i) (drop i s))) (em : m ≡ x) where
+      pub part-on : n + m ≡ feeds (take j s)
+      part-on =
+          let k : i + (j - i) ≡ j = omega arith in
+          rw (e, em, ex) (sym (feeds-append (take i s) (take (j - i) (drop i s))) ∙ ap feeds (sym (take-add i (j - i) s) ∙ ap (λ (x : ℕ). take x s) k))
+
+      pub part-room : j ≤ length s → length s < 2 ^ 64 → Fits w64 (n + m)
+      part-room l w = record { fits = omega (arith, part-on, feeds-le (take j s), length-take j s) }
+
+    pub part-short : (j : ℕ) → j ≤ i + 240 → length (take (j - i) (drop i s)) ≤ 255
+    part-short j l = omega (arith, length-take (j - i) (drop i s))
 
   -- in a run of a line's bytes stands no line feed
   feeds-run : (i e : ℕ) → e ≡ runTo inLine s i → (k : ℕ) → i ≤ k → k ≤ e → feeds (take k s) ≡ feeds (take i s)
@@ -141,3 +170,21 @@ module _ (s : List ℕ) (from stop number : ℕ) (h : from ≤ length s) (e : st
   line-less l a = omega (arith, run-from inLine s from stop e)
 
 pub ruleset line-laws = (line-here, line-last, line-next, line-below, line-less)
+
+pub none-counted : (s : List ℕ) → 0 ≡ feeds (take 0 s)
+unfolding feeds
+none-counted s = refl
+
+pub ruleset counting = (none-counted, feeds-on, feeds-room, feeds-all, feeds-few)
+
+pub ruleset parting = (none-counted, part-on, part-room, part-short, feeds-all, feeds-few)
+
+-- one byte
+module _ (b : ℕ) (t : Bool) (e : t ≡ eqb b 10) where
+  pub feed-yes : t ≡ true → _≡_ {A = ℕ} 1 (cond (eqb b 10) 1 0)
+  feed-yes h = rw (← e, h)
+
+  pub feed-no : t ≡ false → _≡_ {A = ℕ} 0 (cond (eqb b 10) 1 0)
+  feed-no h = rw (← e, h)
+
+pub ruleset one-feed = (feed-yes, feed-no)

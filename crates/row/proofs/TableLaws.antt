@@ -8,7 +8,7 @@ use borrow.Rule.Slice.PartMut.{putMid}
 use lib.ListN.{length, take, drop, drop-of-length-le, length-take, length-drop}
 use lib.Seq.{take-all, sets, sets-eq}
 use Rattle.row.specs.Field.{le, un, fieldAt}
-use Rattle.row.specs.Row.{rowBytes, pour, placeOf, pourAt}
+use Rattle.row.specs.Row.{rowBytes, rowIn, pour, placeOf, pourAt}
 use Rattle.row.specs.declared.table.Row.{Row}
 use Rattle.row.proofs.PourLaws.{length-rowBytes, pour-short, pour-fits, pour-none, pourAt-at, pourAt-full, head-last}
 
@@ -28,6 +28,21 @@ module _ (t : List ℕ) (at width : ℕ) where
   field-read h l k e = rw (le-leb width 8 h, le-leb at (length t) l, le-leb width (length t - at) k) e
 
 pub ruleset fields = (field-wide, field-past, field-cut, field-read)
+
+-- ---- a row that is read back
+
+module _ (t : List ℕ) {a : ℕ} where
+  pub start-read : a ≡ un (take 4 (drop 4 t)) → a ≡ rowIn t .start
+  unfolding rowIn
+  start-read e = e
+
+  pub row-read : {k e l p q b : ℕ} → k ≡ un (take 4 (drop 0 t)) → a ≡ un (take 4 (drop 4 t)) → e ≡ un (take 4 (drop 8 t))
+      → l ≡ un (take 4 (drop 12 t)) → p ≡ un (take 4 (drop 16 t)) → q ≡ un (take 4 (drop 20 t)) → b ≡ un (take 8 (drop 24 t))
+      → record { kind = k; start = a; end = e; line = l; p = p; q = q; bits = b } ≡ rowIn t
+  unfolding rowIn
+  row-read ek ea ee el ep eq eb = rw (ek, ea, ee, el, ep, eq, eb)
+
+pub ruleset reads = (start-read, row-read)
 
 -- ---- a row that is stored
 

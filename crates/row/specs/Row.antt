@@ -1,5 +1,5 @@
 -- The row table: a row, its 32 bytes, and what rows written from the front leave of a table.
-use Prim.Native.Nat.{ℕ, _+_, _*_, min}
+use Prim.Native.Nat.{ℕ, zero, suc, _+_, _*_, min}
 use mathlib.Core.Bool.{cond}
 use mathlib.Core.List.{List, [], _∷_, _++_}
 use lib.Dec.{eqb, leb}
@@ -7,7 +7,7 @@ use lib.IntN.{ℤ}
 use lib.ListN.{length, take, drop}
 use Rattle.decimal.specs.Exact.{twosOf}
 use Rattle.row.specs.declared.table.Row.{Row}
-use Rattle.row.specs.Field.{le}
+use Rattle.row.specs.Field.{le, un}
 
 -- a row of document 01: kind, start, end, line, p, q, value
 unfoldable pub rowOf : ℕ → ℕ → ℕ → ℕ → ℕ → ℕ → ℤ → Row
@@ -25,6 +25,24 @@ rowsBytes (r ∷ rs) = rowBytes r ++ rowsBytes rs
 -- a row's bytes
 abbrev pub width : ℕ
 width = 32
+
+-- the row whose bytes stand at the front of a table
+unfoldable pub rowIn : List ℕ → Row
+rowIn t =
+    record {
+      kind = un (take 4 t);
+      start = un (take 4 (drop 4 t));
+      end = un (take 4 (drop 8 t));
+      line = un (take 4 (drop 12 t));
+      p = un (take 4 (drop 16 t));
+      q = un (take 4 (drop 20 t));
+      bits = un (take 8 (drop 24 t));
+    }
+
+-- the first k rows of a table
+unfoldable pub rowsIn : ℕ → List ℕ → List Row
+rowsIn zero t = []
+rowsIn (suc k) t = rowIn t ∷ rowsIn k (drop width t)
 
 -- the table t after the rows were written from its front: each where a whole row fits, what is past them as it was
 unfoldable pub pour : List Row → List ℕ → List ℕ

@@ -52,3 +52,11 @@ pub fn get_four(t: &[u8], at: usize) -> usize
 {
     wide(t[at]) + 256 * (wide(t[at + 1]) + 256 * (wide(t[at + 2]) + 256 * wide(t[at + 3])))
 }
+
+// The number in the eight bytes at `at`.
+pub fn get_eight(t: &[u8], at: usize) -> usize
+    requires { ⌜ at + 8 ≤ length (now t) ⌝ }
+    ensures { λ r. ⌜ r ≡ un (take 8 (drop at (now (t .entry)))) ⌝ }
+{
+    get_four(t, at) + 4294967296 * get_four(t, at + 4)
+}

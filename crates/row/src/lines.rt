@@ -4,7 +4,8 @@ use crate::table::WIDTH;
 use text::run;
 use text::run::Class;
 ghost use mathlib.Core.Path.{_≡_};
-ghost use Prim.Native.Nat.{_+_, _≤_};
+ghost use mathlib.Core.Bool.{cond};
+ghost use Prim.Native.Nat.{_+_, _≤_, _<_};
 ghost use lib.Dec.{ltb, eqb};
 ghost use lib.ListN.{length, take, drop};
 ghost use Rattle.text.specs.Bytes.{inLine};
@@ -18,6 +19,9 @@ struct Line {
     stop: usize,
     number: usize,
 }
+
+// So many bytes have their line feeds counted in a byte.
+const COUNTED: usize = 240;
 
 // A line feed.
 fn is_feed(b: u8) -> bool
@@ -102,4 +106,57 @@ pub fn set_lines(s: &[u8], table: &mut [u8], n: usize)
         i += WIDTH;
         left -= 1;
     }
+}
+
+// 1 for a line feed.
+fn one_feed(b: u8) -> u8
+    ensures { λ r. ⌜ r ≡ cond (eqb b 10) 1 0 ⌝ }
+{
+    if is_feed(b) { 1 } else { 0 }
+}
+
+// The line feeds of a short text, counted in a byte: so the compiler looks at sixteen bytes together.
+fn few_feeds(s: &[u8]) -> u8
+    requires { ⌜ length (now s) ≤ 255 ⌝ }
+    ensures { λ r. ⌜ r ≡ feeds (now (s .entry)) ⌝ }
+{
+    let mut i = 0;
+    let mut n: u8 = 0;
+    while i < s.len() {
+        n += one_feed(s[i]);
+        i += 1;
+    }
+    n
+}
+
+// A byte's count as a number.
+fn wide(n: u8) -> usize
+    ensures { λ r. ⌜ r ≡ n ⌝ }
+{
+    n as usize
+}
+
+// Where a part ends whose line feeds are counted in a byte.
+fn part_end(i: usize, size: usize) -> usize
+    requires { ⌜ i < size ⌝ }
+    ensures { λ r. ⌜ (i < r) × (r ≤ size) × (r ≤ i + 240) ⌝ }
+{
+    if size - i < COUNTED {
+        return size;
+    }
+    i + COUNTED
+}
+
+// The line feeds of a text.
+pub fn feeds_of(s: &[u8]) -> usize
+    ensures { λ r. ⌜ (r ≡ feeds (now (s .entry))) × (r ≤ length (now (s .entry))) ⌝ }
+{
+    let mut i = 0;
+    let mut n = 0;
+    while i < s.len() {
+        let end = part_end(i, s.len());
+        n += wide(few_feeds(&s[i..end]));
+        i = end;
+    }
+    n
 }

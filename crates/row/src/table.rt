@@ -2,11 +2,11 @@
 use crate::field;
 ghost use mathlib.Core.Path.{_≡_};
 ghost use mathlib.Core.List.{[], _∷_};
-ghost use Prim.Native.Nat.{_/_};
+ghost use Prim.Native.Nat.{_/_, _≤_};
 ghost use lib.Dec.{ltb};
 ghost use lib.ListN.{length};
 ghost use Rattle.row.specs.Field.{fieldAt};
-ghost use Rattle.row.specs.Row.{placeOf, pour, pourAt};
+ghost use Rattle.row.specs.Row.{width, rowIn, placeOf, pour, pourAt};
 
 pub struct Row {
     pub kind: usize,
@@ -78,4 +78,28 @@ pub fn field_at(t: &[u8], at: usize, width: usize) -> usize
         return 0;
     }
     field::get(t, at, width)
+}
+
+// The row whose bytes stand at the front of the table.
+pub fn row_in(t: &[u8]) -> Row
+    requires { ⌜ width ≤ length (now t) ⌝ }
+    ensures { λ r. ⌜ r ≡ rowIn (now (t .entry)) ⌝ }
+{
+    Row {
+        kind: field::get_four(t, 0),
+        start: field::get_four(t, 4),
+        end: field::get_four(t, 8),
+        line: field::get_four(t, 12),
+        p: field::get_four(t, 16),
+        q: field::get_four(t, 20),
+        bits: field::get_eight(t, 24),
+    }
+}
+
+// Where that row starts.
+pub fn start_in(t: &[u8]) -> usize
+    requires { ⌜ width ≤ length (now t) ⌝ }
+    ensures { λ r. ⌜ r ≡ rowIn (now (t .entry)) .start ⌝ }
+{
+    field::get_four(t, 4)
 }

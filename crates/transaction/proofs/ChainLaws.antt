@@ -36,7 +36,7 @@ module _ (base : ℕ) (o : Out) (t v : List ℕ) (r : Ran) (a : Rows) (d : Did b
   pub part-within : (n at : ℕ) → Reach n at a → e ≤ n
   part-within n at R = let z = was-read base o t v r a e m d q in subst (Reach n at) (z .1) R .ends .1
 
-  pub part-rows : (at : ℕ) → Fits at a → o .rows ≤ at → m .rows ≤ e
+  pub part-rows : {s : List ℕ} (at : ℕ) → Fits s at a → o .rows ≤ at → m .rows ≤ e
   part-rows at F h =
       let z = was-read base o t v r a e m d q in
       omega (arith, ap (λ (y : Out). y .rows) (z .2 .0), rows-outs (z .0) o, fits-at at e (z .0) a F (z .1) .1)
@@ -110,7 +110,7 @@ module _ (s : List ℕ) (at : ℕ) where
   unfolding textsOf
   texts-of-reach h = optional-reach (length s) at (texts s at) h (texts-reach s at h)
 
-  pub texts-of-fits : at ≤ length s → Fits at (textsOf s at)
+  pub texts-of-fits : at ≤ length s → Fits s at (textsOf s at)
   unfolding textsOf
   texts-of-fits h = maybe-fits at (texts s at) (texts-fits s at h)
 

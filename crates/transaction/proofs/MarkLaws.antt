@@ -88,7 +88,7 @@ module _ (s : List ℕ) where
       rw (run-ends isBlank s N (omega arith), ← marked-past 35 inTag s N (omega arith) (omega arith), ← marked-past 94 inLink s N (omega arith) (omega arith))
 
   pub mark-stepping : Stepping (length s) (mark s)
-  mark-stepping = record { reach = mark-reach s; fits = mark-fits s; ends = mark-end }
+  mark-stepping = record { text = s; reach = mark-reach s; fits = mark-fits s; ends = mark-end }
 
   pub marks-start : (base at : ℕ) (o : Out) (t : List ℕ) → at ≤ length s → o .rows ≤ at → Runs base (length s) (mark s) (marks s at) o t at o t
   unfolding marks

@@ -6,10 +6,10 @@ use lib.ListN.{length}
 use Rattle.text.specs.Bytes.{bytes, isBlank}
 use Rattle.text.specs.Run.{blanks}
 use Rattle.text.specs.Answer.{must, maybe}
-use Rattle.text.specs.Leaves.{lineEnd, string, tag, link}
+use Rattle.text.specs.Leaves.{lineEnd}
 use Rattle.text.proofs.Joins.{reach-from, must-reach}
 use Rattle.text.proofs.TokenEnds.{run-reach, line-reach, string-reach, tag-reach, link-reach, word-reach}
-use Rattle.amount.proofs.RowCounts.{Fits, to-fits, must-fits, else-fits, and-fits, maybe-fits, many-fits, bare-fits, bare-and, string-bare, tag-bare, link-bare, word-bare}
+use Rattle.amount.proofs.RowCounts.{Fits, to-fits, must-fits, else-fits, and-fits, maybe-fits, many-fits, bare-fits, bare-and, word-bare, string-and, tag-and, link-and}
 use Rattle.posting.specs.Metadata.{metadata}
 use Rattle.posting.specs.Postings.{flag}
 use Rattle.posting.proofs.PostingEnds.{optional-reach, metadata-reach, flag-reach}
@@ -21,37 +21,38 @@ module _ (s : List ℕ) where
   abbrev N : ℕ
   N = length s
 
-  pub opening-fits : (at : ℕ) → at ≤ N → Fits at (opening s at)
+  pub opening-fits : (at : ℕ) → at ≤ N → Fits s at (opening s at)
   unfolding opening
   opening-fits at h =
       else-fits at _ _
       (bare-and N (at + 1) at (flag s at) _ (flag-reach s at) (flag-bare s at) (λ e p q. to-fits at e _ (omega arith)))
       (bare-fits N at _ (reach-from N (at + length (bytes "txn")) at _ (omega arith) (word-reach s at h (bytes "txn"))) (word-bare s at (bytes "txn")))
 
-  pub texts-fits : (at : ℕ) → at ≤ N → Fits at (texts s at)
+  pub texts-fits : (at : ℕ) → at ≤ N → Fits s at (texts s at)
   unfolding texts
   texts-fits at h =
       gap-and s at at _ h (λ a p₁ q₁.
-      bare-and N (a + 1) at (string s a) _ (string-reach s a) (string-bare s a) (λ e p₂ q₂.
+      string-and s N at a _
+      (λ m₁ e p₂ q₂.
       else-fits at _ _
-      (gap-and s at e _ q₂ (λ b p₃ q₃.
-      bare-and N (b + 1) at (string s b) _ (string-reach s b) (string-bare s b) (λ f p₄ q₄. to-fits at f _ (omega arith))))
-      (to-fits at e _ (omega arith))))
+      (gap-and s at e _ q₂ (λ b p₃ q₃. string-and s N at b _ (λ m₂ f p₄ q₄. to-fits at f _ (omega arith)) (string-reach s b)))
+      (to-fits at e _ (omega arith)))
+      (string-reach s a))
 
-  pub mark-fits : (at : ℕ) → at ≤ N → Fits at (mark s at)
+  pub mark-fits : (at : ℕ) → at ≤ N → Fits s at (mark s at)
   unfolding mark
   mark-fits at h =
       let b = blanks s at in
       let r = run-reach isBlank s at h in
       else-fits at _ _
-      (bare-and N (b + 1) at (tag s b) _ (tag-reach s b) (tag-bare s b) (λ e p q. to-fits at e _ (omega arith)))
-      (bare-and N (b + 1) at (link s b) _ (link-reach s b) (link-bare s b) (λ e p q. to-fits at e _ (omega arith)))
+      (tag-and s N at b _ (λ m e p q. to-fits at e _ (omega arith)) (tag-reach s b))
+      (link-and s N at b _ (λ m e p q. to-fits at e _ (omega arith)) (link-reach s b))
 
-  pub marks-fits : (at : ℕ) → at ≤ N → Fits at (marks s at)
+  pub marks-fits : (at : ℕ) → at ≤ N → Fits s at (marks s at)
   unfolding marks
   marks-fits at h = many-fits N (mark s) (mark-reach s) mark-fits (suc N) at h
 
-  pub transaction-fits : (at : ℕ) → at ≤ N → Fits at (transaction s at)
+  pub transaction-fits : (at : ℕ) → at ≤ N → Fits s at (transaction s at)
   unfolding transaction
   transaction-fits at h =
       and-fits N at at (opening s at) _ (opening-reach s at h) (opening-fits at h) (λ a p₁ q₁.

@@ -57,6 +57,9 @@ lumbrisse-expression-stacked-exact-requires c κs = search needs
 of-evaluated-requires-4 : tie.Need-of-evaluated-requires-4
 of-evaluated-requires-4 c κs = search needs
 
+edited-requires : tie.Need-edited-requires
+edited-requires c κs = search needs
+
 lumbrisse-packet-write-requires : tie.Need-lumbrisse-packet-write-requires
 lumbrisse-packet-write-requires c κs = search needs
 
@@ -114,14 +117,20 @@ returns-10 c = search (needs, made-laws)
 same-length-6 : tie.Need-same-length-6
 same-length-6 c = search needs
 
-same-length-7 : tie.Need-same-length-7
-same-length-7 c = search needs
-
 returns-11 : tie.Need-returns-11
 returns-11 c = search (needs, made-laws)
 
+same-length-7 : tie.Need-same-length-7
+same-length-7 c = search needs
+
+same-length-8 : tie.Need-same-length-8
+same-length-8 c = search needs
+
 returns-12 : tie.Need-returns-12
 returns-12 c = search (needs, made-laws)
+
+returns-13 : tie.Need-returns-13
+returns-13 c = search (needs, made-laws)
 
 pub made-spec : {M : Type 1} → statement M
 made-spec =
@@ -145,6 +154,7 @@ made-spec =
     of-evaluated-requires-3
     lumbrisse-expression-stacked-exact-requires
     of-evaluated-requires-4
+    edited-requires
     lumbrisse-packet-write-requires
     of-reply-requires-5
     stepped-requires
@@ -164,6 +174,8 @@ made-spec =
     same-length-5
     returns-10
     same-length-6
-    same-length-7
     returns-11
-    returns-12)
+    same-length-7
+    same-length-8
+    returns-12
+    returns-13)

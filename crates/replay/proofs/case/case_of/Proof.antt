@@ -21,6 +21,12 @@ field-at-requires-5 c κs = search (needs, header-laws)
 field-at-requires-6 : tie.Need-field-at-requires-6
 field-at-requires-6 c κs = search (needs, header-laws)
 
+field-at-requires-7 : tie.Need-field-at-requires-7
+field-at-requires-7 c κs = search (needs, header-laws)
+
+field-at-requires-8 : tie.Need-field-at-requires-8
+field-at-requires-8 c κs = search (needs, header-laws)
+
 returns : tie.Need-returns
 returns c = search (needs, header-laws)
 
@@ -34,4 +40,6 @@ case-of-spec =
     field-at-requires-4
     field-at-requires-5
     field-at-requires-6
+    field-at-requires-7
+    field-at-requires-8
     returns)

@@ -1,0 +1,13 @@
+pub mod MoveLaws
+pub mod RowBytes
+pub mod BlockTests
+pub mod SuchLaws
+pub mod EditedRows
+pub mod AfreshLaws
+pub mod SpanLaws
+pub mod ShiftLaws
+pub mod PickLaws
+pub mod JudgeLaws
+pub mod FreshLaws
+pub mod PartsLaws
+pub mod PlanLaws

@@ -1,0 +1,4 @@
+pub mod Edits
+pub mod Afresh
+pub mod Examples
+pub mod steps
