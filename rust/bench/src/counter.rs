@@ -64,6 +64,12 @@ impl Counter {
         })
     }
 
+    /// The instructions of one call: those of a run with the words and one, less those of a run with none.
+    pub fn one(&self, program: &OsStr, words: &[&OsStr]) -> io::Result<u64> {
+        let counted = |count| self.count(program, &[words, &[OsStr::new(count)]].concat());
+        Ok(counted("1")?.saturating_sub(counted("0")?))
+    }
+
     /// The count in what a counter wrote.
     fn read(&self, output: &Output) -> Option<u64> {
         let text = String::from_utf8_lossy(&output.stderr);

@@ -4,6 +4,8 @@
 //! bench --oracle DIR [--plugin FILE] LEDGER[=LIMIT]..     instructions and time on ledgers, beside the crate
 //! bench --growth [--plugin FILE]                          instructions on hostile inputs of 1, 2, 4 and 8 MB
 //! bench --once read|recover LEDGER N                      reads N times: the least time in seconds, and the answer
+//! bench --edit LEDGER [--plugin FILE]                     instructions of an edit, beside recovering afresh
+//! bench --once edit LEDGER PLACE N                        edits the block at a byte N times, as `--once read` reads
 //! bench --once EVALUATOR TEXT N                           evaluates N times: the time of one, and the answer
 //! bench --stack                                           the stack that each evaluator takes
 //! ```
@@ -24,6 +26,7 @@
 )]
 
 mod counter;
+mod edits;
 mod evaluator;
 mod hostile;
 mod once;
@@ -35,14 +38,17 @@ mod scratch;
 mod stack;
 
 use std::io;
-use std::path::PathBuf;
+use std::path::{Path, PathBuf};
 use std::process::ExitCode;
 
+use edits::Edits;
 use report::{Bench, Ledger};
 
 const USAGE: &str = "usage: bench --oracle DIR [--plugin FILE] LEDGER[=LIMIT]..
        bench --growth [--plugin FILE]
+       bench --edit LEDGER [--plugin FILE]
        bench --once read|recover LEDGER N
+       bench --once edit LEDGER PLACE N
        bench --once expression|exact|stacked|stacked-exact TEXT N
        bench --stack";
 
@@ -87,11 +93,24 @@ fn measure(words: &[String]) -> io::Result<bool> {
     }
 }
 
+/// Measures edits of a ledger. There is no limit to keep.
+fn edited(file: &str, plugin: Option<PathBuf>) -> io::Result<bool> {
+    let edits = Edits::new(plugin, Path::new(file))?;
+    edits.table().map(|()| true)
+}
+
 fn run() -> io::Result<bool> {
     let words: Vec<String> = std::env::args().skip(1).collect();
     match words.as_slice() {
         [once, call, given, count] if once == "--once" => {
             once::once(call, given, count).map(|()| true)
+        }
+        [once, call, file, place, count] if once == "--once" && call == "edit" => {
+            once::edit(file, place, count).map(|()| true)
+        }
+        [edit, file] if edit == "--edit" => edited(file, None),
+        [edit, file, plugin, given] if edit == "--edit" && plugin == "--plugin" => {
+            edited(file, Some(given.into()))
         }
         #[cfg(target_arch = "x86_64")]
         [stack] if stack == "--stack" => stack::table().map(|()| true),

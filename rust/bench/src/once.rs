@@ -4,8 +4,9 @@ use std::hint::black_box;
 use std::io::{self, Write};
 use std::time::Instant;
 
-use lumbrisse::{Evaluated, Refusal, ROW_BYTES};
+use lumbrisse::{Edit, Evaluated, Reading, Refusal, ROW_BYTES};
 
+use crate::edits;
 use crate::evaluator::Evaluator;
 
 /// Makes the call `count` times, on a ledger's file or on an expression.
@@ -19,18 +20,47 @@ pub fn once(call: &str, given: &str, count: &str) -> io::Result<()> {
     }
 }
 
-/// Reads into a table with a row for each byte, which is made before and not cleared in between.
+/// Edits the block at a place of a ledger's file `count` times: each time the ledger as it is in the file.
+pub fn edit(file: &str, place: &str, count: &str) -> io::Result<()> {
+    let place: usize = place.parse().map_err(io::Error::other)?;
+    let count: u32 = count.parse().map_err(io::Error::other)?;
+    let reading = Reading::recover(std::fs::read(file)?).map_err(io::Error::other)?;
+    let (block, new) = edits::corrected(&reading, place)?;
+    let (start, end) = (block.start, block.end);
+    let change = Edit {
+        start,
+        end,
+        new: &new,
+    };
+    let (ledger, rows) = (reading.ledger(), reading.table());
+    let k = reading.rows().len();
+    let room = ledger.len().saturating_add(new.len());
+    timed(room, count, |table| {
+        lumbrisse::edit(ledger, rows, k, change, table)
+    })
+}
+
+/// Reads into a table with a row for each byte.
 fn read(
     call: fn(&[u8], &mut [u8]) -> Result<usize, Refusal>,
     file: &str,
     count: u32,
 ) -> io::Result<()> {
     let ledger = std::fs::read(file)?;
-    let mut table = vec![0; ledger.len().saturating_mul(ROW_BYTES)];
+    timed(ledger.len(), count, |table| call(&ledger, table))
+}
+
+/// Makes a call on a table with room for so many rows, which is made before and not cleared in between.
+fn timed(
+    room: usize,
+    count: u32,
+    call: impl Fn(&mut [u8]) -> Result<usize, Refusal>,
+) -> io::Result<()> {
+    let mut table = vec![0; room.saturating_mul(ROW_BYTES)];
     let (mut least, mut answer) = (None, Ok(0));
     for _ in 0..count {
         let start = Instant::now();
-        answer = call(&ledger, &mut table);
+        answer = call(&mut table);
         let time = start.elapsed();
         least = Some(least.map_or(time, |before| time.min(before)));
     }

@@ -114,38 +114,30 @@ impl Bench {
         Ok(self.kept)
     }
 
-    /// The program that reads so, with its words.
-    fn words<'a>(
-        &'a self,
-        reader: Reader,
-        file: &'a Path,
-        count: &'static str,
-    ) -> (&'a OsStr, Vec<&'a OsStr>) {
+    /// The program that reads so, with its words but for how often.
+    fn words<'a>(&'a self, reader: Reader, file: &'a Path) -> (&'a OsStr, Vec<&'a OsStr>) {
         let program = match reader {
             Reader::Crate => &self.both,
             _ => &self.this,
         };
-        let words = match reader {
+        let mut words = match reader {
             Reader::Crate => vec![OsStr::new("--time")],
             Reader::Plain => vec![OsStr::new("--once"), OsStr::new("read")],
             Reader::Recovering => vec![OsStr::new("--once"), OsStr::new("recover")],
         };
-        let rest = [file.as_os_str(), OsStr::new(count)];
-        (program.as_os_str(), words.into_iter().chain(rest).collect())
+        words.push(file.as_os_str());
+        (program.as_os_str(), words)
     }
 
-    /// The instructions of one reading: those of a run with one, less those of a run with none.
+    /// The instructions of one reading.
     fn instructions(&self, reader: Reader, file: &Path) -> io::Result<f64> {
-        let counted = |count| {
-            let (program, words) = self.words(reader, file, count);
-            self.counter.count(program, &words)
-        };
-        Ok(counted("1")?.saturating_sub(counted("0")?) as f64)
+        let (program, words) = self.words(reader, file);
+        Ok(self.counter.one(program, &words)? as f64)
     }
 
     fn seconds(&self, reader: Reader, file: &Path) -> io::Result<f64> {
-        let (program, words) = self.words(reader, file, READINGS);
-        let output = Command::new(program).args(words).output()?;
+        let (program, words) = self.words(reader, file);
+        let output = Command::new(program).args(words).arg(READINGS).output()?;
         let text = String::from_utf8_lossy(&output.stdout);
         let first = text.split_whitespace().next().unwrap_or_default();
         first.parse().map_err(|_| {

@@ -1,4 +1,4 @@
-//! The archive's eleven functions, and the only unsafe code: each is called with pointer and length of a live slice.
+//! The archive's twelve functions, and the only unsafe code: each is called with pointer and length of a live slice.
 #![allow(unsafe_code)]
 
 /// The answer of a call that reads or writes: number 0 is accepted.
@@ -101,6 +101,19 @@ mod archive {
             text: *mut u8,
             text_length: usize,
         ) -> Handed;
+        pub fn lumbrisse_edit(
+            old: *const u8,
+            old_length: usize,
+            rows: *const u8,
+            rows_length: usize,
+            k: usize,
+            start: usize,
+            end: usize,
+            new: *const u8,
+            new_length: usize,
+            table: *mut u8,
+            table_length: usize,
+        ) -> Reply;
     }
 }
 
@@ -216,6 +229,34 @@ pub fn packet_next(packet: &[u8], at: usize, row: &mut [u8], text: &mut [u8]) ->
             row.len(),
             text.as_mut_ptr(),
             text.len(),
+        )
+    }
+}
+
+pub fn edit(
+    old: &[u8],
+    rows: &[u8],
+    k: usize,
+    start: usize,
+    end: usize,
+    new: &[u8],
+    table: &mut [u8],
+) -> Reply {
+    // SAFETY: as for `read`; `old`, `rows` and `new` are only read, within their lengths, whatever their bytes, `k`,
+    // `start` and `end` are.
+    unsafe {
+        archive::lumbrisse_edit(
+            old.as_ptr(),
+            old.len(),
+            rows.as_ptr(),
+            rows.len(),
+            k,
+            start,
+            end,
+            new.as_ptr(),
+            new.len(),
+            table.as_mut_ptr(),
+            table.len(),
         )
     }
 }

@@ -17,12 +17,14 @@
 //! | [`span_text`] | the text of a span: a part of the ledger itself |
 //! | [`packet`] | rows with their texts as a packet, for the building bus |
 //! | [`packet_next`] | one row of a packet, with its text |
+//! | [`edit`] | the rows of a ledger in which one block was replaced, with that block alone read anew |
 //!
-//! These lend buffers and allocate nothing. [`read_to_vec`], [`recover_to_vec`] and [`packet_to_vec`] make a table or
-//! packet that is large enough. [`Rows`] goes over a table row by row, [`Packets`] over a packet.
+//! These lend buffers and allocate nothing. [`read_to_vec`], [`recover_to_vec`], [`packet_to_vec`] and [`edit_to_vec`]
+//! make a table or packet that is large enough. [`Rows`] goes over a table row by row, [`Packets`] over a packet.
+//! [`Reading`] keeps a ledger and its rows together while blocks of it are replaced; [`block_at`] says where one is.
 //!
-//! Without its default feature `std` the crate is `no_std`, for a display: all but the three calls that allocate, and
-//! `std::error::Error` for a refusal, is there.
+//! Without its default feature `std` the crate is `no_std`, for a display: all but the four calls that allocate,
+//! [`Reading`], and `std::error::Error` for a refusal, is there.
 //!
 //! ```
 //! use lumbrisse::{Kind, Millionths, Rows};
@@ -53,12 +55,15 @@ extern crate std;
 
 mod call;
 mod date;
+mod edit;
 mod ffi;
 mod kind;
 mod millionths;
 #[cfg(feature = "std")]
 mod owned;
 mod packet;
+#[cfg(feature = "std")]
+mod reading;
 mod refusal;
 mod row;
 mod table;
@@ -68,11 +73,14 @@ pub use call::{
     recover, span_text, tag_in_force, Evaluated, SIZE_LIMIT,
 };
 pub use date::Date;
+pub use edit::{block_at, edit, Edit};
 pub use kind::Kind;
 pub use millionths::Millionths;
 #[cfg(feature = "std")]
-pub use owned::{packet_to_vec, read_to_vec, recover_to_vec};
+pub use owned::{edit_to_vec, packet_to_vec, read_to_vec, recover_to_vec};
 pub use packet::{packet, packet_next, Handed, PacketRow, Packets, TEXT_LIMIT};
+#[cfg(feature = "std")]
+pub use reading::Reading;
 pub use refusal::Refusal;
 pub use row::Row;
 pub use table::{Rows, ROW_BYTES};

@@ -2,7 +2,7 @@
 
 use std::vec::Vec;
 
-use crate::{packet, read, recover, Refusal, ROW_BYTES, SIZE_LIMIT};
+use crate::{edit, packet, read, recover, Edit, Refusal, ROW_BYTES, SIZE_LIMIT};
 
 /// How many bytes of a ledger a first table has a row for; ledgers of readings need fewer rows.
 const BYTES_TO_A_ROW: usize = 8;
@@ -50,13 +50,44 @@ pub fn packet_to_vec(ledger: &[u8], table: &[u8], k: usize) -> Result<Vec<u8>, R
     grown(0, 1, |bytes| packet(ledger, table, k, bytes))
 }
 
+/// The rows of a ledger in which one block is replaced, in a table of its own.
+///
+/// Refused as [`edit`] is; with 9 only where the memory for the need cannot be had.
+///
+/// ```
+/// use lumbrisse::Edit;
+///
+/// let ledger = b"2024-01-31 * \"open quote\n2024-02-29 *\n";
+/// let table = lumbrisse::recover_to_vec(ledger)?;
+/// let change = Edit { start: 0, end: 25, new: b"2024-01-31 * \"closed\"\n" };
+/// let rows = lumbrisse::edit_to_vec(ledger, &table, table.len() / lumbrisse::ROW_BYTES, change)?;
+/// assert_eq!(rows, lumbrisse::recover_to_vec(b"2024-01-31 * \"closed\"\n2024-02-29 *\n")?);
+/// # Ok::<(), lumbrisse::Refusal>(())
+/// ```
+pub fn edit_to_vec(
+    ledger: &[u8],
+    rows: &[u8],
+    k: usize,
+    change: Edit<'_>,
+) -> Result<Vec<u8>, Refusal> {
+    let given = k.min(rows.len() / ROW_BYTES);
+    let guess = given.saturating_add(first_rows(change.new));
+    grown(guess, ROW_BYTES, |table| {
+        edit(ledger, rows, k, change, table)
+    })
+}
+
 /// The rows of a ledger, in a first table that fits most of them.
 fn table(
     ledger: &[u8],
     call: fn(&[u8], &mut [u8]) -> Result<usize, Refusal>,
 ) -> Result<Vec<u8>, Refusal> {
-    let guess = ledger.len().min(SIZE_LIMIT) / BYTES_TO_A_ROW;
-    grown(guess, ROW_BYTES, |table| call(ledger, table))
+    grown(first_rows(ledger), ROW_BYTES, |table| call(ledger, table))
+}
+
+/// How many rows of a text a first table has room for.
+fn first_rows(text: &[u8]) -> usize {
+    text.len().min(SIZE_LIMIT) / BYTES_TO_A_ROW
 }
 
 /// Calls with room for a guess, and where that is too short once more with room for the need. A call counts pieces of

@@ -35,7 +35,7 @@ impl Refusal {
     ///
     /// ```
     /// let refusal = lumbrisse::content(b"a\\", &mut []).unwrap_err();
-    /// assert_eq!(refusal.meaning(), "a row count, a row's span or the string content is not valid");
+    /// assert_eq!(refusal.meaning(), "a row count, a row's span, a block, its new bytes or the string content is not valid");
     /// ```
     pub fn meaning(&self) -> &'static str {
         match self.number {
@@ -48,7 +48,7 @@ impl Refusal {
             7 => "a value is not a whole number of millionths",
             8 => "a value is divided by zero",
             9 => "the table or buffer is too short",
-            10 => "a row count, a row's span or the string content is not valid",
+            10 => "a row count, a row's span, a block, its new bytes or the string content is not valid",
             11 => "no expression stands at the start",
             18 => "a text is longer than 65,535 bytes, the most that a field of a packet holds",
             19 => "this field is cut short, or the packet ends where a text is due",

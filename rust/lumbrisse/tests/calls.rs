@@ -1,5 +1,5 @@
-//! The calls on the real archive, those on packets aside (`packets.rs`): 01's own listing and edges, every refusal, and
-//! every lent byte afterwards.
+//! The calls on the real archive, packets and edits aside (`packets.rs`, `edits.rs`): 01's own listing and edges, every
+//! refusal, and every lent byte afterwards.
 
 mod answers;
 

@@ -8,8 +8,8 @@ use std::fs;
 use std::path::PathBuf;
 
 use lumbrisse::{
-    content, expression, expression_exact, expression_stacked, expression_stacked_exact, packet,
-    packet_next, read, recover, span_text, tag_in_force, Evaluated, Handed, Refusal,
+    content, edit, expression, expression_exact, expression_stacked, expression_stacked_exact,
+    packet, packet_next, read, recover, span_text, tag_in_force, Edit, Evaluated, Handed, Refusal,
 };
 
 /// Where another case file is named.
@@ -17,10 +17,10 @@ const NAMED: &str = "LUMBRISSE_CASES";
 
 /// The repository's own file, and how many cases it has: the model's, then those that a differential run has written.
 const OWN: &str = concat!(env!("CARGO_MANIFEST_DIR"), "/../../crates/replay/stdin");
-const OWN_CASES: usize = 1100 + 287;
+const OWN_CASES: usize = 1200 + 287;
 
 /// The numbers of the calls that this test makes.
-const CALLS: [usize; 11] = [1, 2, 3, 4, 5, 6, 9, 12, 13, 15, 16];
+const CALLS: [usize; 12] = [1, 2, 3, 4, 5, 6, 9, 12, 13, 14, 15, 16];
 
 /// The bytes of a case that are left.
 struct Left<'a>(&'a [u8]);
@@ -111,6 +111,14 @@ fn next<'a>(left: &mut Left<'a>) -> Case<'a> {
     }
 }
 
+/// An edit: the second text is the rows' table, of so many bytes, and then the new bytes.
+fn edited(case: &Case, buffer: &mut [u8]) -> Answer {
+    let [start, end, k, rows_room] = case.numbers;
+    let (rows, new) = case.second.split_at(rows_room);
+    let change = Edit { start, end, new };
+    counted(edit(case.first, rows, k, change, buffer))
+}
+
 /// One step over a packet: the buffer is the row's, of so many bytes, and then the text's.
 fn stepped(case: &Case, buffer: &mut [u8]) -> Answer {
     let [at, row_room, tag, _] = case.numbers;
@@ -143,6 +151,7 @@ fn called(case: &Case, buffer: &mut [u8]) -> Answer {
         9 => evaluated(expression_exact(case.first)),
         12 => evaluated(expression_stacked(case.first)),
         13 => evaluated(expression_stacked_exact(case.first)),
+        14 => edited(case, buffer),
         15 => counted(packet(case.first, case.second, a, buffer)),
         16 => stepped(case, buffer),
         call => panic!("the case file has a call {call}"),

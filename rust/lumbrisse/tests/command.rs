@@ -1,30 +1,13 @@
-//! The command `lumbrisse` as a shell runs it: what it writes, and its exit status.
+//! The command `lumbrisse` as a shell runs it, `edit` aside (`command_edit.rs`): what it writes, and its exit status.
 
-use std::io::Write;
-use std::path::Path;
-use std::process::{Command, Output, Stdio};
+mod shell;
+
+use std::process::{Output, Stdio};
+
+use shell::{command, output_on, ran, run, run_on, Ran};
 
 const CLEAN: &str = "examples/clean.beancount";
 const DAMAGED: &str = "examples/building.beancount";
-
-/// What cargo runs this test by, where it was built for another processor.
-const RUNNER: &str = "CARGO_TARGET_X86_64_UNKNOWN_LINUX_GNU_RUNNER";
-
-/// The command, run at the repository's root.
-fn command(words: &[&str]) -> Command {
-    let program = env!("CARGO_BIN_EXE_lumbrisse");
-    let mut command = match std::env::var_os(RUNNER) {
-        None => Command::new(program),
-        Some(emulator) => {
-            let mut command = Command::new(emulator);
-            command.arg(program);
-            command
-        }
-    };
-    let root = Path::new(env!("CARGO_MANIFEST_DIR")).join("../..");
-    command.current_dir(root).args(words);
-    command
-}
 
 /// The packet that the command writes, and what it says beside that.
 fn written(words: &[&str], input: &[u8]) -> (i32, Vec<u8>, String) {
@@ -35,39 +18,6 @@ fn written(words: &[&str], input: &[u8]) -> (i32, Vec<u8>, String) {
     } = output_on(input, words);
     let err = String::from_utf8(stderr).unwrap();
     (status.code().unwrap(), stdout, err)
-}
-
-struct Ran {
-    status: i32,
-    out: String,
-    err: String,
-}
-
-fn ran(output: Output) -> Ran {
-    Ran {
-        status: output.status.code().unwrap(),
-        out: String::from_utf8(output.stdout).unwrap(),
-        err: String::from_utf8(output.stderr).unwrap(),
-    }
-}
-
-fn run(words: &[&str]) -> Ran {
-    ran(command(words).stdin(Stdio::null()).output().unwrap())
-}
-
-fn run_on(input: &[u8], words: &[&str]) -> Ran {
-    ran(output_on(input, words))
-}
-
-fn output_on(input: &[u8], words: &[&str]) -> Output {
-    let mut child = command(words)
-        .stdin(Stdio::piped())
-        .stdout(Stdio::piped())
-        .stderr(Stdio::piped())
-        .spawn()
-        .unwrap();
-    child.stdin.take().unwrap().write_all(input).unwrap();
-    child.wait_with_output().unwrap()
 }
 
 #[test]
@@ -501,6 +451,7 @@ fn help_is_for_every_command() {
         &["help", "recover"],
         &["eval", "-h"],
         &["packet", "--read", "--help"],
+        &["edit", "--help"],
         &["--version"],
     ] {
         let Ran { status, out, err } = run(words);

@@ -2,6 +2,8 @@
 
 use std::ffi::OsString;
 
+use super::change::{self, Change};
+
 /// What the words ask for.
 #[derive(Debug, PartialEq, Eq)]
 pub enum Request {
@@ -22,7 +24,7 @@ pub struct Job {
 }
 
 /// What a command does with its input.
-#[derive(Clone, Copy, Debug, PartialEq, Eq)]
+#[derive(Debug, PartialEq, Eq)]
 pub enum Task {
     /// Reads a ledger.
     Read,
@@ -34,6 +36,8 @@ pub enum Task {
     WritePacket { recovering: bool },
     /// Lists what a packet holds.
     ReadPacket,
+    /// Replaces a block of a ledger.
+    Edit(Change),
 }
 
 /// The commands by name.
@@ -43,6 +47,7 @@ pub enum Verb {
     Recover,
     Eval,
     Packet,
+    Edit,
 }
 
 /// Where a ledger, packet or expression comes from.
@@ -68,14 +73,14 @@ pub enum Form {
 #[derive(Debug, PartialEq, Eq)]
 pub struct Usage(pub String);
 
-fn wrong<T>(message: impl Into<String>) -> Result<T, Usage> {
+pub fn wrong<T>(message: impl Into<String>) -> Result<T, Usage> {
     Err(Usage(message.into()))
 }
 
 /// The request that the words after the program's name stand for.
 pub fn parse(mut words: impl Iterator<Item = OsString>) -> Result<Request, Usage> {
     let Some(word) = words.next() else {
-        return wrong("which command? read, recover, eval or packet");
+        return wrong("which command? read, recover, eval, packet or edit");
     };
     match word.to_str() {
         Some("-h" | "--help") => Ok(Request::Help(None)),
@@ -94,16 +99,17 @@ fn verb(word: &OsString) -> Result<Verb, Usage> {
         Some("recover") => Ok(Verb::Recover),
         Some("eval") => Ok(Verb::Eval),
         Some("packet") => Ok(Verb::Packet),
+        Some("edit") => Ok(Verb::Edit),
         _ => wrong(format!("no command is named {word:?}")),
     }
 }
 
 /// The words after a command: options anywhere before `--`, and one file or expression.
-fn job(verb: Verb, words: impl Iterator<Item = OsString>) -> Result<Request, Usage> {
+fn job(verb: Verb, mut words: impl Iterator<Item = OsString>) -> Result<Request, Usage> {
     let mut options = Options::default();
     let mut target = None;
     let mut behind_dashes = false;
-    for word in words {
+    while let Some(word) = words.next() {
         let option = word
             .to_str()
             .filter(|text| !behind_dashes && is_option(verb, text));
@@ -115,16 +121,23 @@ fn job(verb: Verb, words: impl Iterator<Item = OsString>) -> Result<Request, Usa
             }
             Some("--") => behind_dashes = true,
             Some("-h" | "--help") => return Ok(Request::Help(Some(verb))),
+            Some(option) if verb == Verb::Edit && change::takes_word(option) => {
+                let Some(given) = words.next() else {
+                    return wrong(format!("{option} needs a word behind it"));
+                };
+                options.change.add(option, given)?;
+            }
             Some(option) => options.add(verb, option)?,
         }
     }
     let Some(target) = target else {
         return wrong(missing(verb));
     };
+    let input = input(verb, target);
     Ok(Request::Run(Job {
-        task: options.task(verb)?,
-        input: input(verb, target),
         form: options.form.unwrap_or(Form::Person),
+        task: options.task(verb, &input)?,
+        input,
     }))
 }
 
@@ -135,6 +148,7 @@ struct Options {
     exact: bool,
     recovering: bool,
     reading: bool,
+    change: change::Parts,
 }
 
 impl Options {
@@ -142,10 +156,11 @@ impl Options {
     fn add(&mut self, verb: Verb, option: &str) -> Result<(), Usage> {
         match (verb, option) {
             (_, "--json") => return self.add_form(Form::Json),
-            (Verb::Read | Verb::Recover | Verb::Packet, "--rows") => {
+            (Verb::Read | Verb::Recover | Verb::Packet | Verb::Edit, "--rows") => {
                 return self.add_form(Form::Rows)
             }
             (Verb::Eval, "--exact") => self.exact = true,
+            (Verb::Edit, "--in-place") => self.change.in_place = true,
             (Verb::Packet, "--recover") => self.recovering = true,
             (Verb::Packet, "--read") => self.reading = true,
             _ => return wrong(format!("no option of this command is named {option}")),
@@ -162,8 +177,8 @@ impl Options {
         }
     }
 
-    /// What a command with these options does.
-    fn task(&self, verb: Verb) -> Result<Task, Usage> {
+    /// What a command with these options does with its input.
+    fn task(self, verb: Verb, input: &Input) -> Result<Task, Usage> {
         let task =
             match verb {
                 Verb::Read => Task::Read,
@@ -181,6 +196,7 @@ impl Options {
                 Verb::Packet => Task::WritePacket {
                     recovering: self.recovering,
                 },
+                Verb::Edit => Task::Edit(self.change.change(input)?),
             };
         Ok(task)
     }
@@ -190,21 +206,29 @@ impl Options {
 fn is_option(verb: Verb, word: &str) -> bool {
     match verb {
         Verb::Eval => word.starts_with("--") || word == "-h",
-        Verb::Read | Verb::Recover | Verb::Packet => word.starts_with('-') && word != "-",
+        _ => word.starts_with('-') && word != "-",
     }
 }
 
 fn input(verb: Verb, word: OsString) -> Input {
     match verb {
-        _ if word == "-" => Input::Standard,
-        Verb::Eval => Input::Word(word),
-        Verb::Read | Verb::Recover | Verb::Packet => Input::File(word),
+        Verb::Eval if word != "-" => Input::Word(word),
+        _ => file(word),
+    }
+}
+
+/// A file by its name, or standard input.
+pub fn file(word: OsString) -> Input {
+    match word == "-" {
+        true => Input::Standard,
+        false => Input::File(word),
     }
 }
 
 fn one_only(verb: Verb) -> &'static str {
     match verb {
         Verb::Eval => "one expression at a time; put it between quotes",
+        Verb::Edit => "one ledger at a time; what takes its lines' place stands behind --with",
         Verb::Read | Verb::Recover | Verb::Packet => "one file at a time",
     }
 }
@@ -212,13 +236,15 @@ fn one_only(verb: Verb) -> &'static str {
 fn missing(verb: Verb) -> &'static str {
     match verb {
         Verb::Eval => "which expression? `-` reads it from standard input",
-        Verb::Read | Verb::Recover | Verb::Packet => "which file? `-` is standard input",
+        _ => "which file? `-` is standard input",
     }
 }
 
 #[cfg(test)]
 mod tests {
     use super::*;
+    use crate::cli::change::Destination;
+    use crate::cli::lines::Lines;
 
     fn parsed(words: &[&str]) -> Result<Request, Usage> {
         parse(words.iter().map(OsString::from))
@@ -306,6 +332,71 @@ mod tests {
     }
 
     #[test]
+    fn an_edit_has_lines_and_what_takes_their_place() {
+        let file = || Input::File("a".into());
+        let edit = |with, to| {
+            let lines = Lines { first: 5, last: 6 };
+            run(Task::Edit(Change { lines, with, to }), file(), Form::Person)
+        };
+        let new = || Input::File("new".into());
+        assert_eq!(
+            parsed(&["edit", "a", "--lines", "5-6", "--with", "new"]),
+            edit(new(), Destination::Nowhere)
+        );
+        assert_eq!(
+            parsed(&["edit", "--with", "-", "--lines", "5-6", "--in-place", "a"]),
+            edit(Input::Standard, Destination::Own("a".into()))
+        );
+        assert_eq!(
+            parsed(&["edit", "--output", "b", "a", "--lines", "5-6", "--with", "new"]),
+            edit(new(), Destination::New("b".into()))
+        );
+        // A word that belongs to an option is none itself.
+        assert_eq!(
+            parsed(&["edit", "a", "--lines", "5-6", "--with", "--in-place"]),
+            edit(Input::File("--in-place".into()), Destination::Nowhere)
+        );
+    }
+
+    #[test]
+    fn wrong_words_of_an_edit_are_told() {
+        let wrong: [&[&str]; 17] = [
+            &[],
+            &["a"],
+            &["a", "--lines", "5"],
+            &["a", "--with", "new"],
+            &["a", "--with", "new", "--lines"],
+            &["--lines", "5", "--with", "new"],
+            &["a", "b", "--lines", "5", "--with", "new"],
+            &["a", "--lines", "6-5", "--with", "new"],
+            &["a", "--lines", "0", "--with", "new"],
+            &["a", "--lines", "5", "--lines", "5", "--with", "new"],
+            &["a", "--lines", "5", "--with", "new", "--frob"],
+            &["a", "--lines", "5", "--with", "new", "--exact"],
+            &["a", "--lines", "5", "--with", "new", "--rows", "--json"],
+            &["a", "--lines", "5", "--with", "new", "--output", "-"],
+            &[
+                "a",
+                "--lines",
+                "5",
+                "--with",
+                "new",
+                "--output",
+                "b",
+                "--in-place",
+            ],
+            &["-", "--lines", "5", "--with", "-"],
+            &["-", "--lines", "5", "--with", "new", "--in-place"],
+        ];
+        for words in wrong {
+            let words = [&["edit"], words].concat();
+            assert!(parsed(&words).is_err(), "{words:?}");
+        }
+        assert!(parsed(&["read", "a", "--lines", "5"]).is_err());
+        assert!(parsed(&["packet", "a", "--in-place"]).is_err());
+    }
+
+    #[test]
     fn help_is_for_all_or_for_a_command() {
         assert_eq!(parsed(&["--help"]), Ok(Request::Help(None)));
         assert_eq!(
@@ -316,6 +407,10 @@ mod tests {
         assert_eq!(
             parsed(&["packet", "--read", "-h"]),
             Ok(Request::Help(Some(Verb::Packet)))
+        );
+        assert_eq!(
+            parsed(&["edit", "--lines", "5", "--help"]),
+            Ok(Request::Help(Some(Verb::Edit)))
         );
     }
 

@@ -12,6 +12,7 @@ pub fn of(topic: Option<Verb>) -> &'static str {
         Some(Verb::Recover) => RECOVER,
         Some(Verb::Eval) => EVAL,
         Some(Verb::Packet) => PACKET,
+        Some(Verb::Edit) => EDIT,
     }
 }
 
@@ -24,15 +25,19 @@ Usage:
   lumbrisse eval EXPRESSION     the value of an expression, to the millionth
   lumbrisse packet FILE > OUT   write a ledger's rows as a packet, for a display on the building bus
   lumbrisse packet --read OUT   list what a packet holds
+  lumbrisse edit FILE --lines 56-58 --with NEW
+                                replace one block of a ledger, and say how it reads then
   lumbrisse help COMMAND        more on a command
 
-A FILE, OUT or EXPRESSION of - is standard input.
+A FILE, NEW or EXPRESSION of - is standard input, and so is the OUT of packet --read.
 
 Options:
-  --rows      read, recover, packet --read: the rows themselves, one to a line
+  --rows      read, recover, packet --read, edit: the rows themselves, one to a line
   --json      the answer as JSON
   --exact     eval: refuse what would be rounded
   --recover   packet: the rows of recovering reading
+  --output OUT, --in-place
+              edit: where the new ledger goes
   -h, --help  this text; after a command, more on it
   -V, --version
 
@@ -44,7 +49,7 @@ Start here:
 Exit status:
   0  accepted
   1  refused, or a block of it refused
-  2  wrong words, a file that cannot be read, or a packet that would go to a terminal
+  2  wrong words, a file that cannot be read or written, or a packet that would go to a terminal
 ";
 
 const READ: &str = "\
@@ -138,4 +143,35 @@ With --read --rows, the rows as `lumbrisse read --rows` lists them: these two pr
 
 With --read --json, one object: \"accepted\", \"refusal\" where there is one, \"bytes\" and \"rows\", each
 with its \"place\" in the packet and all of its \"text\".
+";
+
+const EDIT: &str = "\
+lumbrisse edit FILE --lines 56-58 --with NEW [--output OUT | --in-place] [--rows | --json]
+
+Replaces lines of a ledger by what the file NEW holds (- is standard input), and prints what
+`lumbrisse recover` says of the new ledger. Its rows are those of the old one, moved, and the new lines'.
+
+The lines must be exactly one block: from a line that starts with a digit or small letter (or from the
+file's first line) up to the next such line, or to the file's end. `lumbrisse recover` names the lines
+of each refused block. --lines 56 is one line. Where the lines are no block, the block's are said:
+
+  FILE: refusal 10: lines 57-58 are not a block: the block there is lines 56-58
+
+NEW may hold any number of blocks. Without a byte in it the block is removed. Else it must start with a
+digit or small letter, unless the block is the file's first, and end in a line feed, unless it is the
+last. Lines that end in CR LF do end in a line feed; NEW is taken as it is.
+
+The new ledger is written by a name of its own and then renamed, so that no half of one is ever seen:
+  --output OUT  to the file OUT, which must not be there yet
+  --in-place    to FILE itself. What it was before is kept as FILE.bak; where that is there already, as
+                FILE.bak2, FILE.bak3 and so on: no older one is lost. A FILE that another program has
+                changed meanwhile is left.
+With neither nothing is written: what would be said of the new ledger is printed, and no more. What was
+written is said on standard error.
+
+The exit status is 0 where nothing in the new ledger is refused, 1 where a block of it is, which is
+written all the same, and 1 where the edit itself is refused: then nothing is written. It is 2 where a
+file cannot be read or written.
+
+With --rows and --json as `lumbrisse recover`; a refused edit is an object with \"refusal\" and \"why\".
 ";

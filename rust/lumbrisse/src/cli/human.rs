@@ -89,6 +89,20 @@ pub fn too_long(
     note(out, &format!("this {} has {length} bytes", row.kind))
 }
 
+/// An edit that was refused, and why.
+pub fn unedited(
+    out: &mut impl Write,
+    paint: Paint,
+    source: &Source,
+    refusal: Refusal,
+    why: &str,
+) -> io::Result<()> {
+    let name = paint.bold(&source.name);
+    let number = paint.red(&format!("refusal {}", refusal.number));
+    writeln!(out, "{name}: {number}: {why}")?;
+    note(out, "nothing was written")
+}
+
 /// Where a refusal is, its number and its meaning.
 fn heading(
     out: &mut impl Write,

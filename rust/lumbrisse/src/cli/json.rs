@@ -48,6 +48,22 @@ pub fn refused(out: &mut impl Write, source: &Source, refusal: Refusal) -> io::R
     )
 }
 
+/// An edit that was refused, and why in words.
+pub fn unedited(
+    out: &mut impl Write,
+    source: &Source,
+    refusal: Refusal,
+    why: &str,
+) -> io::Result<()> {
+    let file = quoted(source.name.as_bytes());
+    let refusal = bare_refusal(refusal);
+    let why = quoted(why.as_bytes());
+    writeln!(
+        out,
+        "{{\"file\":{file},\"accepted\":false,\"refusal\":{refusal},\"why\":{why}}}"
+    )
+}
+
 /// The value of an expression, and whether anything in it was rounded.
 pub fn evaluated(
     out: &mut impl Write,
@@ -71,14 +87,7 @@ pub fn packet(out: &mut impl Write, source: &Source, tally: &Tally) -> io::Resul
     let accepted = tally.refusal.is_none();
     write!(out, "{{\"file\":{file},\"accepted\":{accepted},")?;
     if let Some(refusal) = tally.refusal {
-        write!(
-            out,
-            "\"refusal\":{{\"number\":{},\"meaning\":{},\"place\":{},\"count\":{}}},",
-            refusal.number,
-            quoted(refusal.meaning().as_bytes()),
-            refusal.place,
-            refusal.count
-        )?;
+        write!(out, "\"refusal\":{},", bare_refusal(refusal))?;
     }
     write!(out, "\"bytes\":{},\"rows\":[", source.bytes.len())?;
     for (number, (place, PacketRow { row, text })) in packet::placed(&source.bytes).enumerate() {
@@ -98,6 +107,17 @@ fn refusal_object(source: &Source, known: Known, refusal: Refusal) -> String {
         refusal.place,
         at.line,
         at.column,
+        refusal.count
+    )
+}
+
+/// A refusal whose place is in no line of a ledger.
+fn bare_refusal(refusal: Refusal) -> String {
+    format!(
+        "{{\"number\":{},\"meaning\":{},\"place\":{},\"count\":{}}}",
+        refusal.number,
+        quoted(refusal.meaning().as_bytes()),
+        refusal.place,
         refusal.count
     )
 }

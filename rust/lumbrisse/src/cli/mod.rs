@@ -1,12 +1,15 @@
 //! The command line: what is asked for, the call that answers it, and how the answer is written.
 
 mod args;
+mod change;
 mod decimal;
+mod edit;
 mod exact;
 mod fraction;
 mod help;
 mod human;
 mod json;
+mod lines;
 mod listing;
 mod packet;
 mod paint;
@@ -14,6 +17,7 @@ mod place;
 mod rows;
 mod shown;
 mod source;
+mod store;
 mod summary;
 
 use std::ffi::OsString;
@@ -91,12 +95,13 @@ fn run_job(job: &Job) -> Status {
         }
     };
     let mut out = BufWriter::new(io::stdout().lock());
-    let (written, status) = match job.task {
+    let (written, status) = match &job.task {
         Task::Read => read(&mut out, job.form, &source),
         Task::Recover => recover(&mut out, job.form, &source),
-        Task::Eval { exact } => eval(&mut out, job.form, exact, &source),
-        Task::WritePacket { recovering } => packet::write(&mut out, recovering, &source),
+        Task::Eval { exact } => eval(&mut out, job.form, *exact, &source),
+        Task::WritePacket { recovering } => packet::write(&mut out, *recovering, &source),
         Task::ReadPacket => packet::read(&mut out, job.form, &source),
+        Task::Edit(change) => edit::edit(&mut out, job.form, change, &source),
     };
     ended(written.and_then(|()| out.flush()), status)
 }
@@ -120,16 +125,19 @@ fn read(out: &mut impl Write, form: Form, source: &Source) -> Outcome {
 
 fn recover(out: &mut impl Write, form: Form, source: &Source) -> Outcome {
     match lumbrisse::recover_to_vec(&source.bytes) {
-        Ok(table) => {
-            let written = match form {
-                Form::Person => human::recovered(out, Paint::stdout(), source, &table),
-                Form::Rows => rows::list(out, Rows::new(&table)),
-                Form::Json => json::recovered(out, source, &table),
-            };
-            (written, recovered(&table))
-        }
+        Ok(table) => told(out, form, source, &table),
         Err(refusal) => refused(out, form, source, refusal),
     }
+}
+
+/// What recovering reading says of a ledger that it has given rows for.
+fn told(out: &mut impl Write, form: Form, source: &Source, table: &[u8]) -> Outcome {
+    let written = match form {
+        Form::Person => human::recovered(out, Paint::stdout(), source, table),
+        Form::Rows => rows::list(out, Rows::new(table)),
+        Form::Json => json::recovered(out, source, table),
+    };
+    (written, recovered(table))
 }
 
 /// How a run ends that recovering reading has given rows for.
