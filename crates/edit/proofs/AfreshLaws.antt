@@ -15,6 +15,7 @@ use Rattle.row.specs.Row.{width, rowsBytes, rowsIn}
 use Rattle.ledger.specs.Plain.{Reading, accepted, denied, sizeLimit}
 use Rattle.ledger.specs.Answers.{answer, left}
 use Rattle.ledger.specs.declared.read.Answer.{Answer}
+use Rattle.ledger.specs.declared.scan.Profile.the-variants.{Plain}
 use Rattle.recovery.specs.Recovering.{recoverFrom, recovered}
 use Rattle.recovery.proofs.FrontLaws.{length-rowsBytes}
 use Rattle.recovery.proofs.CallLaws.{recovered-is}
@@ -71,7 +72,7 @@ module _ (s : List ℕ) (k : ℕ) (u : List ℕ) (a e : ℕ) (y : List ℕ) (R :
   same-count = omega (arith, ap length same-bytes, length-rowsBytes E, length-rowsBytes new)
 
   new-is : recovered (edited s a e y) ≡ accepted new
-  new-is = recovered-is (edited s a e y) (g .newSize)
+  new-is = recovered-is Plain (edited s a e y) (g .newSize)
 
   same-answer : (room : ℕ) → answer (editing s u k a e y) room ≡ answer (recovered (edited s a e y)) room
   unfolding answer
@@ -142,7 +143,7 @@ rows-left : (s : List ℕ) (k : ℕ) (u : List ℕ) (a e : ℕ) (y t : List ℕ)
 rows-left s k u a e y t n R q =
     let some = some-rows (editing s u k a e y) (length t / width) n q in
     let g = is-edit s k u a e y (some .0) (some .1) in
-    let is = recovered-is (edited s a e y) (g .newSize) in
+    let is = recovered-is Plain (edited s a e y) (g .newSize) in
     rows-of (edited s a e y) n t (left (editing s u k a e y) t) (recoverFrom (length (edited s a e y)) 0 0 (edited s a e y)) is
     (sym (ap (λ (r : Reading). answer r (length t / width)) is) ∙ sym (same-answer s k u a e y R g (length t / width)) ∙ q)
     (same-left s k u a e y R g t ∙ ap (λ (r : Reading). left r t) is)

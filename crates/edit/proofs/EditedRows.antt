@@ -21,6 +21,7 @@ use Rattle.row.proofs.LineLaws.{feeds-le}
 use Rattle.entry.proofs.EntryLines.{Each, OnLine}
 use Rattle.entry.proofs.EntryCut.{Ends}
 use Rattle.ledger.specs.Plain.{accepted, sizeLimit}
+use Rattle.ledger.specs.declared.scan.Profile.the-variants.{Plain}
 use Rattle.recovery.specs.Recovering.{blockLength, recoverFrom, recovered}
 use Rattle.recovery.specs.Demand3.{startsTail, endsLine}
 use Rattle.recovery.proofs.BlockLaws.{block-le, cut-is, block-boundary, Boundary, recover-nil}
@@ -196,20 +197,20 @@ module _ (s : List ℕ) (a e : ℕ) (y : List ℕ) (g : Edit s a e y) where
   P-lies : Each (λ r. r .start < a) P
   P-lies =
       each-map (λ (r : Row) (h : Lies 0 0 p r). omega (arith, h .place, before-end p p-ends (h .into) (h .inside) (h .early), len-p)) P
-      (recover-kept (length p) 0 0 p .lines)
+      (recover-kept Plain (length p) 0 0 p .lines)
 
   X-lies : Each (Lies (length p) l x) X
-  X-lies = recover-kept (length x) (length p) l x .lines
+  X-lies = recover-kept Plain (length x) (length p) l x .lines
 
   T-lies : Each (λ r. e ≤ r .start) T
   T-lies =
       each-map (λ (r : Row) (h : Lies (length p + length x) (l + feeds x) t r). omega (arith, h .place, len-p, len-x, bounds .1 .0)) T
-      (subst (Each (Lies (length p + length x) (l + feeds x) t)) T-is (recover-kept (length t) (length p + length x) (l + feeds x) t .lines))
+      (subst (Each (Lies (length p + length x) (l + feeds x) t)) T-is (recover-kept Plain (length t) (length p + length x) (l + feeds x) t .lines))
 
   all-low : Each (λ r. r .start < fieldLimit) (P ++ (X ++ T))
   all-low =
       each-map (λ (r : Row) (h : Lies 0 0 s r). omega (arith, h .place, h .inside, g .size)) (P ++ (X ++ T))
-      (subst (Each (Lies 0 0 s)) old-rows (recover-kept (length s) 0 0 s .lines))
+      (subst (Each (Lies 0 0 s)) old-rows (recover-kept Plain (length s) 0 0 s .lines))
 
   before-is : before a (P ++ (X ++ T)) ≡ P
   before-is =
@@ -242,7 +243,7 @@ module _ (s : List ℕ) (a e : ℕ) (y : List ℕ) (g : Edit s a e y) where
   last-none : eqb e (length s) ≡ true → T₀ ≡ []
   last-none z =
       let w : t ≡ [] = drop-of-length-le s {i = e} (omega (arith, eqb-true e (length s) z)) in
-      ap (λ (i : List ℕ). recoverFrom (length i) 0 0 i) w ∙ recover-nil 0 0 0
+      ap (λ (i : List ℕ). recoverFrom (length i) 0 0 i) w ∙ recover-nil Plain 0 0 0
 
   abbrev shifts : Row → Row
   shifts r = shift (distance n (length y)) (distance (feeds x) (feeds y)) r
@@ -262,7 +263,7 @@ module _ (s : List ℕ) (a e : ℕ) (y : List ℕ) (g : Edit s a e y) where
           let hj : (l + feeds x + distance (feeds x) (feeds y)) % fieldLimit ≡ (l + feeds y) % fieldLimit = omega (arith, feeds-le x) in
           ap (λ (z : List Row). rowsBytes (map shifts z)) (such-wrapped (λ i. leb e i) (P ++ (X ++ T)) all-low ∙ ap (map wrapped) (from-is w))
           ∙ all-shifted (length p + length x) (length p + length y) (distance n (length y)) (l + feeds x) (l + feeds y) (distance (feeds x) (feeds y)) hd hj
-          0 (0 + 1) t T₀ (recover-kept (length t) 0 0 t .lines)
+          0 (0 + 1) t T₀ (recover-kept Plain (length t) 0 0 t .lines)
 
   pub edit-bytes : rowsBytes (editRows s a e y (map wrapped (recoverFrom (length s) 0 0 s))) ≡ rowsBytes (recoverFrom (length (edited s a e y)) 0 0 (edited s a e y))
   unfolding editRows
@@ -292,14 +293,14 @@ accepted-same ps qs e = cc
 
 -- the rows of recovering reading
 pub rows-are : (s : List ℕ) (rs : List Row) → length s ≤ sizeLimit → recovered s ≡ accepted rs → recoverFrom (length s) 0 0 s ≡ rs
-rows-are s rs h e = accepted-same (recoverFrom (length s) 0 0 s) rs (sym (recovered-is s h) ∙ e)
+rows-are s rs h e = accepted-same (recoverFrom (length s) 0 0 s) rs (sym (recovered-is Plain s h) ∙ e)
 
 pub afresh : Afresh
 afresh s a e y rs g h =
     let was = recoverFrom (length s) 0 0 s in
     let q : was ≡ rs = rows-are s rs (g .size) h in (
       recoverFrom (length (edited s a e y)) 0 0 (edited s a e y),
-      recovered-is (edited s a e y) (g .newSize),
+      recovered-is Plain (edited s a e y) (g .newSize),
       ap (λ (z : List Row). rowsBytes (editedRows s a e y z)) (sym q) ∙ ap (λ (z : List Row). rowsBytes (editRows s a e y z)) (rows-in was) ∙ edit-bytes s a e y g,
     )
 

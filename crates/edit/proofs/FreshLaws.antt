@@ -15,6 +15,7 @@ use Rattle.row.proofs.PourLaws.{length-rowBytes, length-pour, pour-all}
 use Rattle.ledger.specs.Plain.{Reading, accepted, denied, sizeLimit}
 use Rattle.ledger.specs.Answers.{answer, left}
 use Rattle.ledger.specs.declared.read.Answer.{Answer}
+use Rattle.ledger.specs.declared.scan.Profile.the-variants.{Plain}
 use Rattle.recovery.specs.Recovering.{recoverFrom, recovered}
 use Rattle.recovery.proofs.BlocksLaws.{recover-kept}
 use Rattle.recovery.proofs.CallLaws.{recovered-is}
@@ -29,11 +30,11 @@ module _ (y : List ℕ) (h : length y ≤ sizeLimit) where
   rs = recoverFrom (length y) 0 0 y
 
   pub few : length rs ≤ sizeLimit
-  few = omega (arith, recover-kept (length y) 0 0 y .few)
+  few = omega (arith, recover-kept Plain (length y) 0 0 y .few)
 
   answer-is : (room : ℕ) → answer (recovered y) room ≡ cond (leb (length rs) room) (Answer.Rows (length rs)) (Answer.Refusal 9 0 (length rs))
   unfolding answer
-  answer-is room = rw (recovered-is y h)
+  answer-is room = rw (recovered-is Plain y h)
 
   module _ (r : Answer) (room : ℕ) (er : r ≡ answer (recovered y) room) (n : ℕ) where
     pub count-rows : r ≡ Answer.Rows n → n ≡ length rs
@@ -67,7 +68,7 @@ module _ (y : List ℕ) (h : length y ≤ sizeLimit) where
   shifted-rows base lines =
       let none : map (moveAll (0 + 0) (0 + 0)) rs ≡ rs = sym (recover-all (length y) 0 0 0 0 y) in
       ap (λ (z : List Row). rowsBytes (map (shiftBy (by base lines)) (map wrapped z))) (sym none)
-      ∙ all-shifted 0 base base 0 lines lines (omega arith) (omega arith) 0 (0 + 1) y rs (recover-kept (length y) 0 0 y .lines)
+      ∙ all-shifted 0 base base 0 lines lines (omega arith) (omega arith) 0 (0 + 1) y rs (recover-kept Plain (length y) 0 0 y .lines)
       ∙ ap rowsBytes (sym (rows-at base lines))
 
 pub ruleset count-laws = (count-rows, count-need, rows-low, need-low)
@@ -109,7 +110,7 @@ module _ (y : List ℕ) (n base lines : ℕ) (z : List ℕ) (F : Fresh y n base 
       let xs = recoverFrom (length y) 0 0 y in
       let zs = recoverFrom (length y) base lines y in
       let rest = drop (length xs * width) z in
-      let q : v ≡ rowsBytes xs ++ rest = ev ∙ rw (recovered-is y (F .size), le-leb (length xs) (length z / width) (omega (arith, F .count, F .room))) in
+      let q : v ≡ rowsBytes xs ++ rest = ev ∙ rw (recovered-is Plain y (F .size), le-leb (length xs) (length z / width) (omega (arith, F .count, F .room))) in
       let w : length zs ≡ length xs = length-at y (F .size) base lines in
       eu
       ∙ ap (λ (i : ℕ). movedIn (by base lines) i v) (F .count)

@@ -18,7 +18,8 @@ use Rattle.entry.proofs.EntryLines.{Each, OnLine}
 use Rattle.entry.proofs.EntryCut.{Ends}
 use Rattle.ledger.specs.Plain.{move, moved, Reading, accepted, denied, part}
 use Rattle.ledger.proofs.PlainLaws.{part-kept}
-use Rattle.recovery.specs.Recovering.{blockLength, blockRows, recoverFrom}
+use Rattle.ledger.specs.declared.scan.Profile.the-variants.{Plain}
+use Rattle.recovery.specs.Recovering.{blockLength, blockRows, recoverBy, recoverFrom}
 use Rattle.recovery.proofs.BlockLaws.{recover-nil, recover-step, recover-bound, append-none, recover-append}
 
 -- a row of recovering reading, a bytes and l lines further on
@@ -69,8 +70,8 @@ all-step f a l b m s h ih =
     let n = blockLength s in
     let x = take n s in
     rw (
-      recover-step f (a + b) (l + m) s h,
-      recover-step f b m s h,
+      recover-step Plain f (a + b) (l + m) s h,
+      recover-step Plain f b m s h,
       map-append (moveAll a l) (blockRows b m n (part x)) (recoverFrom f (b + n) (m + feeds x) (drop n s)),
       ← block-all a l b m n x (part x) refl,
       ← ih (b + n) (m + feeds x) (drop n s),
@@ -79,7 +80,7 @@ all-step f a l b m s h ih =
     )
 
 pub recover-all : (f a l b m : ℕ) (s : List ℕ) → recoverFrom f (a + b) (l + m) s ≡ map (moveAll a l) (recoverFrom f b m s)
-unfolding recoverFrom
+unfolding recoverBy
 recover-all zero a l b m s = refl
 recover-all (suc f) a l b m [] = refl
 recover-all (suc f) a l b m (c ∷ s) = all-step f a l b m (c ∷ s) (omega arith) (λ c k z. recover-all f a l c k z)
@@ -92,9 +93,9 @@ Joined p t = 0 < length p → 0 < length t → Ends p × (isStart (getD t 0 0) �
 pub joined-rows : (f g h a l : ℕ) (p t : List ℕ) → Joined p t → length p + length t ≤ f → length p ≤ g → length t ≤ h
     → recoverFrom f a l (p ++ t) ≡ recoverFrom g a l p ++ recoverFrom h (a + length p) (l + feeds p) t
 unfolding feeds
-joined-rows f g h a l [] t j hf hg hh = append-none t f g h a l (omega arith) hh
+joined-rows f g h a l [] t j hf hg hh = append-none Plain t f g h a l (omega arith) hh
 joined-rows f g h a l (b ∷ p) [] j hf hg hh =
-    rw (append-nil p, recover-nil h (a + length (b ∷ p)) (l + feeds (b ∷ p)), append-nil (recoverFrom g a l (b ∷ p))) (recover-bound f g a l (b ∷ p) (omega arith) hg)
+    rw (append-nil p, recover-nil Plain h (a + length (b ∷ p)) (l + feeds (b ∷ p)), append-nil (recoverFrom g a l (b ∷ p))) (recover-bound Plain f g a l (b ∷ p) (omega arith) hg)
 joined-rows f g h a l (b ∷ p) (d ∷ t) j hf hg hh =
     let k = j (omega arith) (omega arith) in
-    recover-append (d ∷ t) (k .1) f g h a l (b ∷ p) hf hg hh (k .0)
+    recover-append Plain (d ∷ t) (k .1) f g h a l (b ∷ p) hf hg hh (k .0)

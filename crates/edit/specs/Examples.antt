@@ -8,7 +8,7 @@ use Rattle.row.specs.declared.table.Row.{Row}
 use Rattle.row.specs.Row.{rowBytes, rowsBytes, rowIn, rowsIn, feeds}
 use Rattle.row.specs.Details.{spanned}
 use Rattle.ledger.specs.Plain.{Reading, accepted, denied}
-use Rattle.recovery.specs.Recovering.{blockLength, recoverFrom}
+use Rattle.recovery.specs.Recovering.{blockLength, recoverBy}
 use Rattle.recovery.specs.Demand3.{startsTail, endsLine}
 use Rattle.edit.specs.Edits.{isBlock, isNew, shift, such, editRows, grows, editing}
 
@@ -73,5 +73,5 @@ abbrev listed : Case → Reading
 listed (rs, k, a, e, y, r) = r
 
 pub edits-hold : map answered (edits ++ refusals) ≡ map listed (edits ++ refusals)
-unfolding editing grows isBlock isNew editRows such shift rowsIn rowIn rowsBytes rowBytes feeds spanned blockLength recoverFrom startsTail endsLine bytes isDigit isSmall
+unfolding editing grows isBlock isNew editRows such shift rowsIn rowIn rowsBytes rowBytes feeds spanned blockLength recoverBy startsTail endsLine bytes isDigit isSmall
 edits-hold = refl

@@ -20,7 +20,7 @@ use Rattle.entry.specs.Forms.{Form, formOf}
 use Rattle.entry.specs.Entry.{detailRow, rowsOf, got, judged, settled, entryOf}
 use Rattle.entry.specs.Lost.{lostEvent, lostHeld, fine, whole}
 use Rattle.entry.proofs.EntryForms.{entry-form}
-use Rattle.entry.proofs.KindRange.{form-kind-low}
+use Rattle.entry.proofs.EntryTold.{form-kind-low}
 use Rattle.entry.proofs.EntryAgree.{Clear, form-cut}
 use Rattle.entry.proofs.HeldLaws.{whole-torn, lost-clear}
 

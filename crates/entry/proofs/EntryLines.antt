@@ -1,5 +1,6 @@
 -- The rows of an entry stand on their lines: where a row starts k bytes into the entry, its line is the line feeds in
--- these bytes. One starts where the entry ends only in mid-line, and kinds are below that of a refusal row.
+-- these bytes. One starts where the entry ends only in mid-line, none ends behind it, and kinds are below that of a
+-- refusal row.
 use Prim.Native.Nat.{ℕ, zero, suc, _+_, _-_, _≤_, _<_}
 use native.Mathlib.Omega.{arith}
 use mathlib.Core.Path.{_≡_, refl}
@@ -7,14 +8,12 @@ use mathlib.Core.List.{List, [], _∷_, map}
 use lib.ListN.{length, take}
 use lib.Seq.{length-take-le, getD-take}
 use Rattle.amount.specs.declared.detail.Detail.{Detail}
-use Rattle.amount.proofs.RowCounts.{refusalKind, midLine, Rising, fits-at}
+use Rattle.amount.proofs.RowCounts.{refusalKind, flagKind, midLine, Rising}
 use Rattle.row.specs.declared.table.Row.{Row}
 use Rattle.row.specs.Row.{rowOf, feeds}
-use Rattle.entry.specs.Forms.{formOf}
 use Rattle.entry.specs.Entry.{detailRow, rowsOf, got, entryOf}
 use Rattle.entry.proofs.EntryForms.{entry-form, entry-sound}
-use Rattle.entry.proofs.EntryFew.{form-fits}
-use Rattle.entry.proofs.KindRange.{form-kind-low}
+use Rattle.entry.proofs.EntryTold.{form-placed, form-kind-low}
 
 abbrev pub Each : {A : Type 0} → (A → Type 0) → List A → Type 0
 Each P [] = Unit {0}
@@ -27,9 +26,10 @@ pub record OnLine (top a l : ℕ) (s : List ℕ) (r : Row) : Type 0 where
   pub early : into < length s + midLine s into
   pub place : r .start ≡ a + into
   pub lines : r .line ≡ l + feeds (take into s)
+  pub ends : r .end ≤ a + length s
   pub kind : r .kind < top
 
-rising-le : (s : List ℕ) (k j : ℕ) (ds : List Detail) → Rising s k j ds → k ≤ j
+rising-le : (s : List ℕ) (k j : ℕ) (ds : List Detail) → Rising flagKind s k j ds → k ≤ j
 rising-le s k j [] r = r
 rising-le s k j (d ∷ ds) r = omega (arith, r .0, rising-le s (d .start) j ds (r .3))
 
@@ -39,7 +39,7 @@ unfolding midLine
 mid-taken n zero s h = refl
 mid-taken n (suc i) s h = let z : suc i - 1 ≡ i = omega arith in rw (z, getD-take n s i 0 (omega arith))
 
-details-lines : (s : List ℕ) (n k : ℕ) (ds : List Detail) → n ≤ length s → Rising s k n ds → Each (OnLine refusalKind 0 0 (take n s)) (map (detailRow (take n s)) ds)
+details-lines : (s : List ℕ) (n k : ℕ) (ds : List Detail) → n ≤ length s → Rising flagKind s k n ds → Each (OnLine refusalKind 0 0 (take n s)) (map (detailRow (take n s)) ds)
 unfolding detailRow rowOf
 details-lines s n k [] h r = tt
 details-lines s n k (d ∷ ds) h r =
@@ -51,7 +51,8 @@ details-lines s n k (d ∷ ds) h r =
         early = rw (mid-taken n (d .start) s le) (omega (arith, r .1));
         place = omega arith;
         lines = omega arith;
-        kind = r .2;
+        ends = omega (arith, r .2);
+        kind = omega (arith, r .2);
       },
       details-lines s n (d .start) ds h (r .3),
     )
@@ -61,7 +62,7 @@ unfolding rowsOf rowOf feeds
 entry-lines s n rs e =
     let f = entry-form s n rs e in
     let k = entry-sound s n rs e in
-    let r = fits-at 1 n (f .0) (formOf s) (form-fits s) (f .1) .0 in
+    let r = form-placed s n (f .0) (f .1) .0 in
     let len = length-take-le n s (k .1) in
     rw (f .2) (
       record {
@@ -70,6 +71,7 @@ entry-lines s n rs e =
         early = omega (arith, k .0);
         place = omega arith;
         lines = omega arith;
+        ends = omega arith;
         kind = omega (arith, form-kind-low s n (f .0) (f .1));
       },
       details-lines s n 1 (f .0 .details) (k .1) r,

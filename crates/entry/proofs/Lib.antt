@@ -1,12 +1,11 @@
 pub mod EntryEnds
 pub mod EntryAgree
 pub mod HeldLaws
-pub mod KindRange
 pub mod EntryCut
 pub mod EntryForms
 pub mod EntryFew
+pub mod EntryTold
 pub mod EntryLines
-pub mod EntryKinds
 pub mod TokenJoins
 pub mod KeywordLaws
 pub mod FormLaws

@@ -15,7 +15,6 @@ use Rattle.decimal.specs.declared.Value.the-variants.{Known, Refused}
 use Rattle.text.specs.Answer.{To}
 use Rattle.text.proofs.Joins.{Reach}
 use Rattle.amount.specs.declared.detail.Detail.{Detail}
-use Rattle.amount.proofs.RowCounts.{fits-at}
 use Rattle.row.specs.declared.writer.Out.{Out}
 use Rattle.row.specs.Row.{rowOf, pour, placeOf}
 use Rattle.row.specs.Details.{laid, valuePlace}
@@ -26,11 +25,11 @@ use Rattle.row.proofs.TableLaws.{head-and-rest}
 use Rattle.entry.specs.Forms.{Form, formOf}
 use Rattle.entry.specs.Entry.{rowsOf, Reads, got, refuse, judged, settled, entryOf}
 use Rattle.entry.specs.steps.Formed.{DidForm}
-use Rattle.entry.specs.steps.Settled.{ownRow, settledEntry, settledTable, entryAnswer, formRows, EntryPoured}
+use Rattle.entry.specs.steps.Settled.{ownRow, settledEntry, settledTable, kindOf, entryAnswer, formRows, EntryPoured}
 use Rattle.entry.specs.declared.directive.Formed.{Formed}
 use Rattle.entry.specs.declared.entry.Entry.{Entry}
 use Rattle.entry.proofs.EntryEnds.{form-reach}
-use Rattle.entry.proofs.EntryFew.{form-fits}
+use Rattle.entry.proofs.EntryTold.{form-placed}
 use Rattle.entry.proofs.FormLaws.{form-was, form-missed, form-refused}
 
 -- ---- the first refused value
@@ -86,12 +85,12 @@ judged-held (d ∷ ds) o r h = go (d .value) refl (judged-held ds (more o) r h)
 
 -- ---- where the details are written and o is held
 
-module _ (n : ℕ) (o : Out) where
-  pub settled-read : o .bad ≡ 0 → Entry.Read n (o .rows + 1) ≡ settledEntry n o
+module _ (k n : ℕ) (o : Out) where
+  pub settled-read : o .bad ≡ 0 → Entry.Read k n (o .rows + 1) ≡ settledEntry k n o
   unfolding settledEntry
   settled-read h = rw (eq-eqb (o .bad) 0 h)
 
-  pub settled-refused : (o .bad ≡ 0 → ⊥) → Entry.Refused (o .bad - 1) (o .place) ≡ settledEntry n o
+  pub settled-refused : (o .bad ≡ 0 → ⊥) → Entry.Refused (o .bad - 1) (o .place) ≡ settledEntry k n o
   unfolding settledEntry
   settled-refused h = rw (ne-eqb (o .bad) 0 h)
 
@@ -119,13 +118,13 @@ entry-verdict s n x m e h = rw (e, h) (judged-held (x .details) noneHeld (got n 
 rows-held : (ds : List Detail) (m : Out) → m ≡ outs noneHeld ds → m .rows ≡ length ds
 rows-held ds m h = ap (λ (o : Out). o .rows) h ∙ omega (arith, rows-outs ds noneHeld)
 
-answer-held : (s : List ℕ) (n : ℕ) (x : Form) (m : Out) → m .rows ≡ length (x .details) → settledEntry n m ≡ entryAnswer (heldVerdict (got n (rowsOf s n x)) m)
-unfolding settledEntry entryAnswer rowsOf
+answer-held : (s : List ℕ) (n : ℕ) (x : Form) (m : Out) → m .rows ≡ length (x .details) → settledEntry (x .kind) n m ≡ entryAnswer (heldVerdict (got n (rowsOf s n x)) m)
+unfolding settledEntry entryAnswer kindOf rowsOf rowOf
 answer-held s n x m h = go (eqb (m .bad) 0)
   where
-    go : (b : Bool) → cond b (Entry.Read n (m .rows + 1)) (Entry.Refused (m .bad - 1) (m .place))
+    go : (b : Bool) → cond b (Entry.Read (x .kind) n (m .rows + 1)) (Entry.Refused (m .bad - 1) (m .place))
         ≡ entryAnswer (cond b (got n (rowsOf s n x)) (refuse (m .bad - 1) (m .place)))
-    go true = rw (h, length-map) (ap (Entry.Read n) (omega arith))
+    go true = rw (h, length-map) (ap (Entry.Read (x .kind) n) (omega arith))
     go false = refl
 
 -- the table with the details from row 1 on, and then the entry's own row, unless a value is refused
@@ -145,10 +144,10 @@ poured-held base s t i v k d n m u x ex ek ed em (xs, ev) ei eu = go (eqb (m .ba
     go false q = tt
 
 module _ (base : ℕ) (s t : List ℕ) (i : ℕ) (v : List ℕ) (f : Formed) (w : DidForm base (formOf s) noneHeld (take (length t - i) (drop i t)) v f) where
-  pub entry-answer : (k d n : ℕ) (m : Out) (r : Entry) → f ≡ Formed.Read k d n m → r ≡ settledEntry n m → r ≡ entryAnswer (entryOf s)
+  pub entry-answer : (k d n : ℕ) (m : Out) (r : Entry) → f ≡ Formed.Read k d n m → r ≡ settledEntry k n m → r ≡ entryAnswer (entryOf s)
   entry-answer k d n m r h q =
       let z = form-was base (formOf s) noneHeld (take (length t - i) (drop i t)) v f k d n m w h in
-      q ∙ answer-held s n (z .0) m (rows-held (z .0 .details) m (z .4)) ∙ ap entryAnswer (sym (entry-verdict s n (z .0) m (z .1) (z .4)))
+      q ∙ ap (λ i. settledEntry i n m) (sym (z .2)) ∙ answer-held s n (z .0) m (rows-held (z .0 .details) m (z .4)) ∙ ap entryAnswer (sym (entry-verdict s n (z .0) m (z .1) (z .4)))
 
   pub entry-poured : (k d n : ℕ) (m : Out) (u : List ℕ) → f ≡ Formed.Read k d n m → i ≡ placeOf 1 (length t)
       → u ≡ settledTable base k d n m (putMid i (length t - i) t v) → EntryPoured (entryOf s) base s t u
@@ -186,7 +185,7 @@ module _ (base : ℕ) (s t : List ℕ) (i : ℕ) (v : List ℕ) (f : Formed) (w 
     entry-bounds =
         let z = form-was base (formOf s) noneHeld (take (length t - i) (drop i t)) v f k d n m w h in
         let p = subst (Reach (length s) 1) (z .1) (form-reach s) .ends in
-        omega (arith, p, rows-held (z .0 .details) m (z .4), fits-at 1 n (z .0) (formOf s) (form-fits s) (z .1) .1)
+        omega (arith, p, rows-held (z .0 .details) m (z .4), form-placed s n (z .0) (z .1) .1)
 
     pub entry-within : length s ≤ 16777216 → n ≤ 16777216
     entry-within l = omega (arith, entry-bounds)

@@ -27,9 +27,9 @@ ghost use Rattle.entry.specs.steps.Formed.{DidForm};
 ghost use Rattle.entry.specs.steps.Undated.{gapQuoted, optionEnd, optionOf, includeEnd, includeOf, tagOf, blankFormed, poptagForm, pushtagForm, includeForm, optionForm, undated};
 ghost use Rattle.entry.specs.steps.Settled.{settledEntry, settledTable, entryAnswer, EntryPoured};
 
-// An entry of so many bytes and rows; or a refusal's number and place.
+// An entry of a kind, of so many bytes and rows; or a refusal's number and place.
 pub enum Entry {
-    Read(usize, usize),
+    Read(usize, usize, usize),
     Refused(usize, usize),
 }
 
@@ -241,7 +241,7 @@ fn settled_at(
     out: Out,
 ) -> Entry
     requires { ⌜ (base ≤ 16777216) × (end ≤ 16777216) × (out .rows ≤ 16777216) ⌝ }
-    ensures { λ r. ⌜ r ≡ settledEntry end out ⌝ }
+    ensures { λ r. ⌜ r ≡ settledEntry kind end out ⌝ }
     ensures { λ _. ⌜ now (table .exit) ≡ settledTable base kind date end out (now (table .entry)) ⌝ }
 {
     let bad = out.bad;
@@ -259,7 +259,7 @@ fn settled_at(
                 bits: 0,
             },
         );
-        return Entry::Read(end, q + 1);
+        return Entry::Read(kind, end, q + 1);
     }
     Entry::Refused(bad - 1, out.place)
 }

@@ -11,7 +11,7 @@ use Rattle.row.specs.Row.{rowOf}
 use Rattle.row.specs.Details.{laid}
 use Rattle.entry.specs.Forms.{Form, formOf}
 use Rattle.entry.specs.Entry.{detailRow, rowsOf}
-use Rattle.entry.proofs.EntryKinds.{form-kind}
+use Rattle.entry.proofs.EntryTold.{form-kind}
 use Rattle.ledger.specs.Plain.{move, moved}
 use Rattle.ledger.specs.steps.Scan.{withLine}
 

@@ -1,3 +1,4 @@
+pub mod RowOrder
 pub mod PlainLaws
 pub mod MoveLaws
 pub mod WholeMoved
@@ -10,3 +11,8 @@ pub mod Places
 pub mod ExpressionPlaces
 pub mod PostingPlaces
 pub mod EntryPlaces
+pub mod StrictCode
+pub mod JudgeLaws
+pub mod StrictScan
+pub mod PassLaws
+pub mod StrictProved

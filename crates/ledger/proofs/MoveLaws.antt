@@ -12,6 +12,7 @@ use Rattle.row.specs.Details.{spanned}
 use Rattle.entry.specs.Entry.{Reads, got, refuse, entryOf}
 use Rattle.entry.proofs.EntryForms.{entry-sound}
 use Rattle.ledger.specs.Plain.{move, moved, Reading, accepted, denied, after, readFrom}
+use Rattle.ledger.specs.steps.Scan.{movedReading}
 use Rattle.ledger.proofs.PlainLaws.{read-nil, read-got, read-refuse}
 
 -- ---- rows before a reading
@@ -42,10 +43,6 @@ moved-moved a l b m (r ∷ rs) =
       ← add-assoc l m (r .line),
       moved-moved a l b m rs,
     )
-
-abbrev pub movedReading : ℕ → ℕ → Reading → Reading
-movedReading a l (accepted rs) = accepted (moved a l rs)
-movedReading a l (denied n p) = denied n (a + p)
 
 moved-after : (a l : ℕ) (ds : List Row) (x : Reading) → movedReading a l (after ds x) ≡ after (moved a l ds) (movedReading a l x)
 moved-after a l ds (accepted rs) = ap accepted (map-append (move a l) ds rs)

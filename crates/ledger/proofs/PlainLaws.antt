@@ -1,10 +1,11 @@
--- The rows of plain reading: no more than the bytes, each on its line, and none of a refusal row's kind.
+-- The rows of plain reading: no more than the bytes, in order of start, each on its line and within the text, and none of a
+-- refusal row's kind.
 use Prim.Native.Nat.{ℕ, zero, suc, _+_, _-_, _≤_, _<_}
 use native.Mathlib.Nat.{zero-add, add-zero, add-assoc}
 use native.Mathlib.Omega.{arith}
 use mathlib.Core.Path.{_≡_, refl, sym, _∙_, ap, subst}
 use mathlib.Core.Bool.{Bool, true, false, cond}
-use mathlib.Core.List.{List, [], _∷_, _++_, map}
+use mathlib.Core.List.{List, [], _∷_, _++_}
 use borrow.Author.Tests.{ne-eqb}
 use lib.Dec.{ltb}
 use lib.ListN.{length, getD, take, drop, length-append, length-map, take-append-drop, List·getD-append}
@@ -16,9 +17,10 @@ use Rattle.row.specs.Row.{feeds}
 use Rattle.row.proofs.LineLaws.{feeds-append}
 use Rattle.entry.specs.Entry.{Reads, got, refuse, entryOf}
 use Rattle.entry.proofs.EntryForms.{entry-sound}
-use Rattle.entry.proofs.EntryFew.{entry-few}
+use Rattle.entry.proofs.EntryTold.{entry-few}
 use Rattle.entry.proofs.EntryLines.{Each, OnLine, entry-lines}
 use Rattle.ledger.specs.Plain.{move, moved, Reading, accepted, denied, after, readFrom, partAt, part}
+use Rattle.ledger.proofs.RowOrder.{Rises, rises-append, rises-moved, entry-rises}
 
 -- ---- one entry of a reading
 
@@ -42,12 +44,14 @@ read-refuse f a l (b ∷ s) k p h e = rw (e, readFrom)
 
 pub record Kept (top a l : ℕ) (s : List ℕ) (rs : List Row) : Type 0 where
   pub few : length rs ≤ length s
+  pub order : Rises a (a + length s) rs
   pub lines : Each (OnLine top a l s) rs
 
 -- moved, and under a higher bound of kinds
 pub kept-move : (top high a l b m : ℕ) (s : List ℕ) (rs : List Row) → top ≤ high → Kept top b m s rs → Kept high (a + b) (l + m) s (moved a l rs)
 unfolding move
-kept-move top high a l b m s rs g k = record { few = rw length-map (k .few); lines = each rs (k .lines) }
+kept-move top high a l b m s rs g k =
+    record { few = rw length-map (k .few); order = rw (add-assoc a b (length s)) (rises-moved a l b (b + length s) rs (k .order)); lines = each rs (k .lines) }
   where
     each : (rs : List Row) → Each (OnLine top b m s) rs → Each (OnLine high (a + b) (l + m) s) (moved a l rs)
     each [] h = tt
@@ -58,6 +62,7 @@ kept-move top high a l b m s rs g k = record { few = rw length-map (k .few); lin
         early = h .early;
         place = omega (arith, h .place);
         lines = omega (arith, h .lines);
+        ends = omega (arith, h .ends);
         kind = omega (arith, h .kind);
       },
       each rs hs,
@@ -83,7 +88,12 @@ mid-second u v i h =
 
 pub kept-append : (top a l : ℕ) (u v : List ℕ) (xs ys : List Row) → Kept top a l u xs → Kept top (a + length u) (l + feeds u) v ys
     → Kept top a l (u ++ v) (xs ++ ys)
-kept-append top a l u v xs ys k j = record { few = simp length-append (omega (arith, k .few, j .few)); lines = first xs (k .lines) }
+kept-append top a l u v xs ys k j =
+    record {
+      few = simp length-append (omega (arith, k .few, j .few));
+      order = rw (length-append, ← add-assoc a (length u) (length v)) (rises-append a (a + length u) (a + length u + length v) xs ys (k .order) (j .order));
+      lines = first xs (k .lines);
+    }
   where
     second-early : (i : ℕ) → i < length v + midLine v i → length u + i < length (u ++ v) + midLine (u ++ v) (length u + i)
     second-early zero h = rw length-append (omega (arith, mid-none v))
@@ -98,6 +108,7 @@ kept-append top a l u v xs ys k j = record { few = simp length-append (omega (ar
         early = second-early (h .into) (h .early);
         place = omega (arith, h .place);
         lines = rw (take-append-add, feeds-append) (omega (arith, h .lines));
+        ends = rw length-append (omega (arith, h .ends));
         kind = h .kind;
       },
       rest ys hs,
@@ -112,6 +123,7 @@ kept-append top a l u v xs ys k j = record { few = simp length-append (omega (ar
         early = rw (length-append, mid-first u v (h .into) (h .inside)) (omega (arith, h .early));
         place = h .place;
         lines = rw (take-append-le (h .into) u v (h .inside)) (h .lines);
+        ends = rw length-append (omega (arith, h .ends));
         kind = h .kind;
       },
       first xs hs,
@@ -130,9 +142,10 @@ after-kept a l u v xs (denied n p) k j = tt
 
 entry-kept : (a l : ℕ) (s : List ℕ) (n : ℕ) (rs : List Row) → entryOf s ≡ got n rs → Kept refusalKind a l (take n s) (moved a l rs)
 entry-kept a l s n rs e =
+    let len = length-take-le n s (entry-sound s n rs e .1) in
     rw (add-zero a, add-zero l) at
     (kept-move refusalKind refusalKind a l 0 0 (take n s) rs (omega arith)
-    (record { few = rw (length-take-le n s (entry-sound s n rs e .1)) (entry-few s n rs e); lines = entry-lines s n rs e }))
+    (record { few = rw len (entry-few s n rs e); order = rw (len, zero-add n) (entry-rises s n rs e); lines = entry-lines s n rs e }))
 
 read-step : (f a l : ℕ) (s : List ℕ) → 0 < length s → ((b m : ℕ) (z : List ℕ) → Accepts (Kept refusalKind b m z) (readFrom f b m z))
     → Accepts (Kept refusalKind a l s) (readFrom (suc f) a l s)
@@ -148,8 +161,8 @@ read-step f a l s h ih = go (entryOf s) refl
 
 pub read-kept : (f a l : ℕ) (s : List ℕ) → Accepts (Kept refusalKind a l s) (readFrom f a l s)
 unfolding readFrom
-read-kept zero a l s = record { few = omega arith; lines = tt }
-read-kept (suc f) a l [] = record { few = omega arith; lines = tt }
+read-kept zero a l s = record { few = omega arith; order = omega arith; lines = tt }
+read-kept (suc f) a l [] = record { few = omega arith; order = omega arith; lines = tt }
 read-kept (suc f) a l (c ∷ s) = read-step f a l (c ∷ s) (omega arith) (λ b m z. read-kept f b m z)
 
 pub part-at-kept : (a l : ℕ) (s : List ℕ) → Accepts (Kept refusalKind a l s) (partAt a l s)

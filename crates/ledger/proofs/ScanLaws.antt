@@ -17,12 +17,11 @@ use Rattle.row.proofs.TableLaws.{lent-on}
 use Rattle.entry.specs.Forms.{formOf}
 use Rattle.entry.specs.Entry.{Reads, got, refuse, entryOf}
 use Rattle.entry.specs.declared.entry.Entry.{Entry}
-use Rattle.entry.specs.steps.Settled.{ownRow, entryAnswer, formRows, EntryPoured}
+use Rattle.entry.specs.steps.Settled.{ownRow, kindOf, entryAnswer, formRows, EntryPoured}
 use Rattle.entry.proofs.EntryForms.{entry-form, entry-sound}
-use Rattle.entry.proofs.EntryFew.{entry-few}
+use Rattle.entry.proofs.EntryTold.{entry-few}
 use Rattle.ledger.specs.Plain.{moved, accepted, denied, after, readFrom}
-use Rattle.ledger.specs.steps.Scan.{withLine, scanned, scanAnswer, ScanPoured}
-use Rattle.ledger.specs.declared.scan.Scan.{Scan}
+use Rattle.ledger.specs.steps.Scan.{withLine, scanned}
 use Rattle.ledger.proofs.PlainLaws.{read-nil, read-got, read-refuse}
 use Rattle.ledger.proofs.MoveLaws.{after-none, after-after, read-bound}
 use Rattle.ledger.proofs.LaidRows.{entry-laid}
@@ -42,7 +41,7 @@ rows-laid a l s n rs e =
     ap (formRows a) (z .1) ∙ sym (entry-laid a l s n (z .0) (z .1)) ∙ ap (λ x. map (withLine 0) (moved a l x)) (sym (z .2))
 
 -- what is left of a reading after an entry, in a text that starts at place a
-read-on : (a : ℕ) (s : List ℕ) (at l n : ℕ) (rs : List Row) → at < length s → entryOf (drop at s) ≡ got n rs
+pub read-on : (a : ℕ) (s : List ℕ) (at l n : ℕ) (rs : List Row) → at < length s → entryOf (drop at s) ≡ got n rs
     → readFrom (length s - at) (a + at) l (drop at s) ≡ after (moved (a + at) l rs) (readFrom (length s - (at + n)) (a + (at + n)) (l + feeds (take n (drop at s))) (drop (at + n) s))
 read-on a s at l n rs h e =
     let f = length s - at - 1 in
@@ -100,13 +99,14 @@ scan-start a s t =
 module _ (a : ℕ) (s u : List ℕ) (at n : ℕ) (t : List ℕ) (g : Reached a s u at n t) (h : at < length s) (r : Entry)
     (w₀ : r ≡ entryAnswer (entryOf (take (length s - at) (drop at s)))) where
   -- what an entry that was read is
-  turn-was : (m q : ℕ) → r ≡ Entry.Read m q → (rs : List Row) × (entryOf (drop at s) ≡ got m rs) × (q ≡ length rs)
+  pub turn-was : (k m q : ℕ) → r ≡ Entry.Read k m q → (rs : List Row) × (entryOf (drop at s) ≡ got m rs) × (q ≡ length rs) × (k ≡ kindOf rs)
   unfolding entryAnswer
-  turn-was m q e = go (entryOf (drop at s)) refl (sym e ∙ w₀ ∙ ap (λ x. entryAnswer (entryOf x)) (rest-of s at))
+  turn-was k m q e = go (entryOf (drop at s)) refl (sym e ∙ w₀ ∙ ap (λ x. entryAnswer (entryOf x)) (rest-of s at))
     where
-      go : (x : Reads) → entryOf (drop at s) ≡ x → Entry.Read m q ≡ entryAnswer x → (rs : List Row) × (entryOf (drop at s) ≡ got m rs) × (q ≡ length rs)
-      go (got j rs) p w = let i : j ≡ m = cc in (rs, p ∙ ap (λ k. got k rs) i, cc)
-      go (refuse k j) p w = absurd (let z : _≡_ {A = ℕ} 0 1 = cc in omega arith)
+      go : (x : Reads) → entryOf (drop at s) ≡ x → Entry.Read k m q ≡ entryAnswer x
+          → (rs : List Row) × (entryOf (drop at s) ≡ got m rs) × (q ≡ length rs) × (k ≡ kindOf rs)
+      go (got j rs) p w = let i : j ≡ m = cc in (rs, p ∙ ap (λ k. got k rs) i, cc, cc)
+      go (refuse i j) p w = absurd (let z : _≡_ {A = ℕ} 0 1 = cc in omega arith)
 
   turn-refused : (k p : ℕ) → r ≡ Entry.Refused k p → entryOf (drop at s) ≡ refuse k p
   unfolding entryAnswer
@@ -116,17 +116,17 @@ module _ (a : ℕ) (s u : List ℕ) (at n : ℕ) (t : List ℕ) (g : Reached a s
       go (got j rs) q w = absurd (let z : _≡_ {A = ℕ} 0 1 = cc in omega arith)
       go (refuse i j) q w = let y : i ≡ k = cc in let z : j ≡ p = cc in rw (← y, ← z) q
 
-  module _ (m q : ℕ) (e : r ≡ Entry.Read m q) where
+  module _ (k m q : ℕ) (e : r ≡ Entry.Read k m q) where
     turn-bounds : (0 < m) × (at + m ≤ length s) × (q ≤ m)
     turn-bounds =
-        let z = turn-was m q e in
+        let z = turn-was k m q e in
         omega (arith, entry-sound (drop at s) m (z .0) (z .1), entry-few (drop at s) m (z .0) (z .1), z .2, length-drop at s)
 
     pub turn-read : (i : ℕ) (v : List ℕ) → i ≡ placeOf n (length t)
         → EntryPoured (entryOf (take (length s - at) (drop at s))) (a + at) (take (length s - at) (drop at s)) (take (length t - i) (drop i t)) v
         → Reached a s u (at + m) (n + q) (putMid i (length t - i) t v)
     turn-read i v ei w =
-        let z = turn-was m q e in
+        let z = turn-was k m q e in
         let b = turn-bounds in
         let new = moved (a + at) (g .line) (z .0) in
         let part = take (length t - i) (drop i t) in
@@ -150,6 +150,10 @@ module _ (a : ℕ) (s u : List ℕ) (at n : ℕ) (t : List ℕ) (g : Reached a s
     pub turn-falls : length s - (at + m) < length s - at
     turn-falls = omega (arith, turn-bounds)
 
+    -- the entry stands in the rest of the text, as the code lends it on
+    pub turn-len : m ≤ length (take (length s - at) (drop at s))
+    turn-len = rw (rest-of s at, length-drop) (omega (arith, turn-bounds))
+
     pub turn-place : a + length s ≤ 16777216 → Fits w64 (at + m)
     turn-place l = record { fits = omega (arith, turn-bounds) }
 
@@ -157,32 +161,18 @@ module _ (a : ℕ) (s u : List ℕ) (at n : ℕ) (t : List ℕ) (g : Reached a s
     turn-count l = record { fits = omega (arith, turn-bounds, g .few) }
 
   module _ (k p : ℕ) (e : r ≡ Entry.Refused k p) where
-    scan-denied : scanned a s ≡ denied k (a + at + p)
+    pub scan-denied : scanned a s ≡ denied k (a + at + p)
     scan-denied = g .rest ∙ ap (after (g .rows)) (read-stop a s at (g .line) k p h (turn-refused k p e))
-
-    pub turn-stop : Scan.Stopped k (a + at + p) ≡ scanAnswer (scanned a s)
-    unfolding scanAnswer
-    turn-stop = rw scan-denied
 
     pub turn-spot : a + length s ≤ 16777216 → Fits w64 (a + at + p)
     turn-spot l = record { fits = omega (arith, entry-place (drop at s) k p (turn-refused k p e), length-drop at s) }
 
-    pub turn-left : (v : List ℕ) → ScanPoured (scanned a s) u v
-    turn-left v = rw scan-denied tt
-
 -- the end is reached
 module _ (a : ℕ) (s u : List ℕ) (at n : ℕ) (t : List ℕ) (g : Reached a s u at n t) (h : length s ≤ at) where
-  scan-accepted : scanned a s ≡ accepted (g .rows)
+  pub scan-accepted : scanned a s ≡ accepted (g .rows)
   scan-accepted =
       let e : readFrom (length s - at) (a + at) (g .line) (drop at s) ≡ accepted [] = rw (drop-of-length-le s {i = at} h) (read-nil (length s - at) (a + at) (g .line)) in
       g .rest ∙ ap (after (g .rows)) e ∙ ap accepted (append-nil (g .rows))
-
-  pub scan-whole : Scan.Whole n ≡ scanAnswer (scanned a s)
-  unfolding scanAnswer
-  scan-whole = rw scan-accepted (ap Scan.Whole (g .count))
-
-  pub scan-poured : ScanPoured (scanned a s) u t
-  scan-poured = rw scan-accepted (g .table)
 
 -- what the entry needs
 module _ (a : ℕ) (s : List ℕ) (at : ℕ) (l : a + length s ≤ 16777216) where
@@ -195,4 +185,4 @@ module _ (a : ℕ) (s : List ℕ) (at : ℕ) (l : a + length s ≤ 16777216) whe
   pub place-fits : at < length s → Fits w64 (a + at)
   place-fits h = record { fits = omega arith }
 
-pub ruleset scan-laws = (scan-start, turn-read, turn-falls, turn-place, turn-count, turn-spot, turn-stop, turn-left, scan-whole, scan-poured, rest-small, place-small, place-fits)
+pub ruleset scan-laws = (scan-start, turn-read, turn-falls, turn-len, turn-place, turn-count, turn-spot, rest-small, place-small, place-fits)

@@ -1,4 +1,6 @@
 pub mod Plain
+pub mod Strict
+pub mod Strictness
 pub mod Answers
 pub mod steps
 pub mod Examples

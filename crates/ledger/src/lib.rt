@@ -1,3 +1,4 @@
-// Plain reading.
+// Plain and strict reading.
 pub mod read;
 pub mod scan;
+pub mod strict;

@@ -1,5 +1,6 @@
-// Plain reading. The first pass, into no table, gives the verdict and the need; the second writes.
+// Plain and strict reading. The first pass, into no table, gives the verdict and the need; the second writes.
 use crate::scan;
+use crate::scan::Profile;
 use crate::scan::Scan;
 use row::lines;
 use row::table::WIDTH;
@@ -9,8 +10,9 @@ ghost use Prim.Native.Nat.{_/_, _≤_};
 ghost use lib.ListN.{length};
 ghost use Rattle.text.specs.Permitted.{clean};
 ghost use Rattle.ledger.specs.Plain.{plain};
+ghost use Rattle.ledger.specs.Strict.{strict, readingBy};
 ghost use Rattle.ledger.specs.Answers.{answer, left};
-ghost use Rattle.ledger.specs.steps.Scan.{scanned, scanAnswer};
+ghost use Rattle.ledger.specs.steps.Scan.{scannedBy, scanAnswer};
 
 // A ledger's bytes at the most (refusal 1).
 pub const SIZE: usize = 16_777_216;
@@ -35,24 +37,24 @@ fn refusal(number: usize, place: usize, count: usize) -> Answer
 }
 
 // The second pass, which writes: n rows, if there is room for them. It is lent the part of the table that they fill, so that no other byte changes.
-fn written(ledger: &[u8], table: &mut [u8], n: usize) -> Answer
-    requires { ⌜ (length (now ledger) ≤ 16777216) × (length (now ledger) ≤ clean (now ledger)) × (Scan.Whole n ≡ scanAnswer (scanned 0 (now ledger))) ⌝ }
-    ensures answer { λ r. ⌜ r ≡ answer (plain (now (ledger .entry))) (length (now (table .entry)) / 32) ⌝ }
-    ensures rows { λ _. ⌜ now (table .exit) ≡ left (plain (now (ledger .entry))) (now (table .entry)) ⌝ }
+fn written(ledger: &[u8], table: &mut [u8], n: usize, profile: Profile) -> Answer
+    requires { ⌜ (length (now ledger) ≤ 16777216) × (length (now ledger) ≤ clean (now ledger)) × (Scan.Whole n ≡ scanAnswer (scannedBy profile 0 (now ledger))) ⌝ }
+    ensures answer { λ r. ⌜ r ≡ answer (readingBy profile (now (ledger .entry))) (length (now (table .entry)) / 32) ⌝ }
+    ensures rows { λ _. ⌜ now (table .exit) ≡ left (readingBy profile (now (ledger .entry))) (now (table .entry)) ⌝ }
 {
     if table.len() / WIDTH < n {
         return refusal(9, 0, n);
     }
     let end = n * WIDTH;
-    scan::entries(ledger, 0, &mut table[0..end]);
+    scan::entries(ledger, 0, &mut table[0..end], Profile::Plain);
     lines::set_lines(ledger, table, n);
     Answer::Rows(n)
 }
 
-// Plain reading of a ledger into a row table. A refusal leaves every byte of the table.
-pub fn read(ledger: &[u8], table: &mut [u8]) -> Answer
-    ensures answer { λ r. ⌜ r ≡ answer (plain (now (ledger .entry))) (length (now (table .entry)) / 32) ⌝ }
-    ensures rows { λ _. ⌜ now (table .exit) ≡ left (plain (now (ledger .entry))) (now (table .entry)) ⌝ }
+// A ledger's reading in a profile, into a row table. A refusal leaves every byte of the table.
+fn read_by(ledger: &[u8], table: &mut [u8], profile: Profile) -> Answer
+    ensures answer { λ r. ⌜ r ≡ answer (readingBy profile (now (ledger .entry))) (length (now (table .entry)) / 32) ⌝ }
+    ensures rows { λ _. ⌜ now (table .exit) ≡ left (readingBy profile (now (ledger .entry))) (now (table .entry)) ⌝ }
 {
     if SIZE < ledger.len() {
         return refusal(1, 0, 0);
@@ -62,9 +64,25 @@ pub fn read(ledger: &[u8], table: &mut [u8]) -> Answer
         return refusal(2, c, 0);
     }
     let mut none = [0u8; 1];
-    let m = scan::entries(ledger, 0, &mut none);
+    let m = scan::entries(ledger, 0, &mut none, profile);
     match m {
         Scan::Stopped(number, place) => refusal(number, place, 0),
-        Scan::Whole(n) => written(ledger, table, n),
+        Scan::Whole(n) => written(ledger, table, n, profile),
     }
+}
+
+// Plain reading.
+pub fn read(ledger: &[u8], table: &mut [u8]) -> Answer
+    ensures answer { λ r. ⌜ r ≡ answer (plain (now (ledger .entry))) (length (now (table .entry)) / 32) ⌝ }
+    ensures rows { λ _. ⌜ now (table .exit) ≡ left (plain (now (ledger .entry))) (now (table .entry)) ⌝ }
+{
+    read_by(ledger, table, Profile::Plain)
+}
+
+// Strict reading (M-110): plain reading, and lost lines (16) and flags but `*` and `!` (17) are refused.
+pub fn read_strict(ledger: &[u8], table: &mut [u8]) -> Answer
+    ensures answer { λ r. ⌜ r ≡ answer (strict (now (ledger .entry))) (length (now (table .entry)) / 32) ⌝ }
+    ensures rows { λ _. ⌜ now (table .exit) ≡ left (strict (now (ledger .entry))) (now (table .entry)) ⌝ }
+{
+    read_by(ledger, table, Profile::Strict)
 }

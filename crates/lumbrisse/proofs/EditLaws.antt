@@ -11,7 +11,7 @@ use Rattle.row.specs.Row.{width, rowsIn}
 use Rattle.ledger.specs.Plain.{Reading, accepted, denied, sizeLimit}
 use Rattle.ledger.specs.Answers.{answer, left}
 use Rattle.ledger.specs.declared.read.Answer.{Answer}
-use Rattle.recovery.specs.Recovering.{recoverFrom, recovered}
+use Rattle.recovery.specs.Recovering.{recoveredBy, recoverFrom, recovered}
 use Rattle.edit.specs.Edits.{isBlock, isNew, grows, editRows, editing}
 use Rattle.edit.proofs.AfreshLaws.{afresh-call, some-rows, is-edit, rows-of}
 use Rattle.lumbrisse.specs.declared.reply.Reply.{Reply}
@@ -26,7 +26,7 @@ Numbered (accepted rs) = Unit {0}
 Numbered (denied n p) = n ≡ 0 → ⊥
 
 recovered-numbered : (s : List ℕ) → Numbered (recovered s)
-unfolding recovered
+unfolding recoveredBy
 recovered-numbered s = go (leb (length s) sizeLimit) (recoverFrom (length s) 0 0 s)
   where
     go : (b : Bool) (rs : List Row) → Numbered (cond b (accepted rs) (denied 1 0))

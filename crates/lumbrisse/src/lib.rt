@@ -16,7 +16,8 @@ use reply::Handed;
 use reply::Part;
 use reply::Reply;
 ghost use Rattle.ledger.specs.Plain.{plain};
-ghost use Rattle.recovery.specs.Recovering.{recovered};
+ghost use Rattle.ledger.specs.Strict.{strict};
+ghost use Rattle.recovery.specs.Recovering.{recovered, recoveredStrictly};
 ghost use Rattle.edit.specs.Edits.{editing};
 ghost use Rattle.lumbrisse.specs.Promises.{TablePromise, ContentPromise, ExpressionPromise, TagPromise, SpanPromise, PacketPromise, StepPromise};
 
@@ -35,6 +36,24 @@ pub extern "C" fn lumbrisse_recover(ledger: &[u8], table: &mut [u8]) -> Reply
     ensures { λ r. ⌜ TablePromise (recovered (now (ledger .entry))) (now (table .entry)) r (now (table .exit)) ⌝ }
 {
     let a = recover::recover(ledger, table);
+    reply::reply_of(a)
+}
+
+// Strict reading: plain reading, and lost lines (16) and flags but `*` and `!` (17) are refused.
+#[no_mangle]
+pub extern "C" fn lumbrisse_read_strict(ledger: &[u8], table: &mut [u8]) -> Reply
+    ensures { λ r. ⌜ TablePromise (strict (now (ledger .entry))) (now (table .entry)) r (now (table .exit)) ⌝ }
+{
+    let a = read::read_strict(ledger, table);
+    reply::reply_of(a)
+}
+
+// Recovering reading, each block read strictly: the rows' count, or a refusal (1 or 9).
+#[no_mangle]
+pub extern "C" fn lumbrisse_recover_strict(ledger: &[u8], table: &mut [u8]) -> Reply
+    ensures { λ r. ⌜ TablePromise (recoveredStrictly (now (ledger .entry))) (now (table .entry)) r (now (table .exit)) ⌝ }
+{
+    let a = recover::recover_strict(ledger, table);
     reply::reply_of(a)
 }
 

@@ -1,4 +1,4 @@
--- Rules 12, 13 and 16: rows stand in order, and are no more than the bytes.
+-- Rules 12, 13 and 16: rows stand in order within their bytes, and are no more than these.
 use Prim.Native.Nat.{ℕ, suc, _+_, _-_, _≤_}
 use native.Mathlib.Omega.{arith}
 use mathlib.Core.Path.{_≡_, refl}
@@ -16,7 +16,7 @@ use Rattle.amount.specs.Expression.{expression}
 use Rattle.amount.specs.Amounts.{amount}
 use Rattle.amount.proofs.ExpressionEnds.{expression-reach}
 use Rattle.amount.proofs.AmountLaws.{amount-reach}
-use Rattle.amount.proofs.RowCounts.{midLine, Rising, rising-wide, Holds, Fits, to-fits, fits-from, else-fits, then-rows, then-fits, and-fits, maybe-fits, many-fits, Bare, token-bare, test-bare, bare-fits, bare-and, gap-bare, line-bare, empty-bare, account-bare, currency-bare, byte-bare, string-and}
+use Rattle.amount.proofs.RowCounts.{flagKind, midLine, Rising, placed-wide, Holds, Fits, to-fits, fits-from, else-fits, then-rows, then-fits, and-fits, maybe-fits, many-fits, Bare, token-bare, test-bare, bare-fits, bare-and, gap-bare, line-bare, empty-bare, account-bare, currency-bare, byte-bare, string-and}
 use Rattle.amount.proofs.AmountFew.{amount-fits}
 use Rattle.posting.specs.Metadata.{key, quoted, value, metaLine, metaStep, metadata}
 use Rattle.posting.specs.Costs.{price, comma, Lot, inside, cost}
@@ -42,14 +42,14 @@ module _ (s : List ℕ) where
 
   -- ---- rule 16
 
-  pub quoted-fits : (row : ℕ → ℕ → Detail) (k at : ℕ) → (midLine s (at + 1) ≡ 1 → (e : ℕ) → at + 1 ≤ e → Rising s k e (row (at + 1) (e - 1) ∷ [])) → k ≤ at → Fits s k (quoted row s at)
+  pub quoted-fits : (row : ℕ → ℕ → Detail) (k at : ℕ) → (midLine s (at + 1) ≡ 1 → (e : ℕ) → at + 1 ≤ e → Rising (suc flagKind) s k e (row (at + 1) (e - 1) ∷ [])) → k ≤ at → Fits s k (quoted row s at)
   unfolding quoted
   quoted-fits row k at f h = string-and s N k at _ (λ m e p q. to-fits k e _ (f m e p, omega arith)) (string-reach s at)
 
-  -- a metadata row starts at its key
-  pub value-fits : (k c at : ℕ) → k ≤ at → Fits s k (value k c s at)
+  -- a metadata row spans its key
+  pub value-fits : (k c at : ℕ) → k ≤ at → c ≤ at → Fits s k (value k c s at)
   unfolding value
-  value-fits k c at h =
+  value-fits k c at h g =
       else-fits k _ _ (quoted-fits (named 35 k c) k at (λ m e p. omega arith) h)
       (else-fits k _ _
       (then-fits N (at + 1) k (expression s at) _ (expression-reach s at) (λ e v p q. to-fits k e _ (omega arith)))
@@ -67,7 +67,7 @@ module _ (s : List ℕ) where
       (bare-and N (k + 1) k (key s k) _ (key-reach s k) (key-bare k) (λ c p₂ q₂.
       bare-and N (c + 1) k (byte 58 s c) _ (byte-reach s c 58 (omega arith)) (byte-bare s c 58) (λ d p₃ q₃.
       gap-and k d _ q₃ (λ v p₄ q₄.
-      and-fits N (v + 1) k (value k c s v) _ (value-reach s k c v) (value-fits k c v (omega arith)) (λ e p₅ q₅. line-fits e q₅))))))
+      and-fits N (v + 1) k (value k c s v) _ (value-reach s k c v) (value-fits k c v (omega arith) (omega arith)) (λ e p₅ q₅. line-fits e q₅))))))
 
   pub meta-step-fits : (at : ℕ) → at ≤ N → Fits s at (metaStep s at)
   unfolding metaStep
@@ -103,19 +103,19 @@ module _ (s : List ℕ) where
   abbrev pub held : Lot → List Detail
   held l = l .rows
 
-  pub inside-fits : (at : ℕ) → at ≤ N → Holds s held at (inside s at)
+  pub inside-fits : (at : ℕ) → at ≤ N → Holds (suc flagKind) s held at (inside s at)
   unfolding inside
   inside-fits at h =
       else-fits at _ _
       (then-rows _ N (at + 1) at at (amount 26 s at) _ (amount-reach s 26 at) (amount-fits s 26 at (omega arith)) (λ i rs p₁ q₁ r₁.
       then-fits N (i + 1) at (comma s i) _ (comma-reach s i q₁) (λ j _ p₂ q₂.
       then-fits N (j + 10) at (date s j) _ (date-reach s j q₂) (λ e d p₃ q₃.
-      to-fits at e _ (rising-wide s at i at e rs (omega arith) (omega arith) (r₁ .0), omega arith)))))
+      to-fits at e _ (placed-wide (suc flagKind) (suc flagKind) s at i at e rs (omega arith) (omega arith) (omega arith) r₁)))))
       (else-fits at _ _
       (then-fits N (at + 10) at (date s at) _ (date-reach s at h) (λ i d p₁ q₁.
       then-fits N (i + 1) at (comma s i) _ (comma-reach s i q₁) (λ j _ p₂ q₂.
       then-rows _ N (j + 1) j at (amount 26 s j) _ (amount-reach s 26 j) (amount-fits s 26 j (omega arith)) (λ e rs p₃ q₃ r₃.
-      to-fits at e _ (rising-wide s j e at e rs (omega arith) (omega arith) (r₃ .0), omega arith)))))
+      to-fits at e _ (placed-wide (suc flagKind) (suc flagKind) s j e at e rs (omega arith) (omega arith) (omega arith) r₃)))))
       (else-fits at _ _
       (then-rows _ N (at + 1) at at (amount 26 s at) _ (amount-reach s 26 at) (amount-fits s 26 at (omega arith)) (λ e rs p₁ q₁ r₁. to-fits at e _ r₁))
       (else-fits at _ _
@@ -131,7 +131,7 @@ module _ (s : List ℕ) where
       then-rows held N b b at (inside s b) _ (inside-reach s b (r .1)) (inside-fits b (r .1)) (λ e l p₂ q₂ r₂.
       let w = run-reach isBlank s e q₂ in
       bare-and N (blanks s e + 1) at (byte 125 s (blanks s e)) _ (byte-reach s (blanks s e) 125 (omega arith)) (byte-bare s (blanks s e) 125) (λ f p₃ q₃.
-      to-fits at f _ ((omega arith, omega arith, omega arith, rising-wide s b e at f (l .rows) (omega arith) (omega arith) (r₂ .0)), omega arith))))
+      to-fits at f _ ((omega arith, omega arith, omega arith, placed-wide (suc flagKind) (suc flagKind) s b e at f (l .rows) (omega arith) (omega arith) (omega arith) r₂ .0), omega arith))))
 
   -- ---- rule 12
 

@@ -14,9 +14,10 @@ use Rattle.row.specs.Row.{feeds}
 use Rattle.row.specs.Strings.{isStart, cuts, holds}
 use Rattle.entry.proofs.EntryCut.{Ends}
 use Rattle.entry.proofs.HeldLaws.{start-zero}
-use Rattle.ledger.specs.Plain.{part}
+use Rattle.ledger.specs.Strict.{partBy}
+use Rattle.ledger.specs.declared.scan.Profile.{Profile}
 use Rattle.row.proofs.LineLaws.{feeds-append}
-use Rattle.recovery.specs.Recovering.{blockLength, blockRows, recoverFrom}
+use Rattle.recovery.specs.Recovering.{blockLength, blockRows, recoverBy}
 
 -- ---- a block's length
 
@@ -87,76 +88,77 @@ block-local (c ∷ []) t h e b = let q : c ≡ 10 = e (omega arith) in rw (q, b,
 block-local (c ∷ d ∷ p) t h e b =
     ap (λ (n : ℕ). suc (cond (cuts c d) 0 n)) (block-local (d ∷ p) t (omega arith) (ends-drop 1 (c ∷ d ∷ p) (omega arith) e) b)
 
--- ---- block by block
-
-pub recover-nil : (f a l : ℕ) → recoverFrom f a l [] ≡ []
-unfolding recoverFrom
-recover-nil zero a l = refl
-recover-nil (suc f) a l = refl
-
-pub recover-step : (f a l : ℕ) (s : List ℕ) → 0 < length s
-    → recoverFrom (suc f) a l s ≡ blockRows a l (blockLength s) (part (take (blockLength s) s)) ++ recoverFrom f (a + blockLength s) (l + feeds (take (blockLength s) s)) (drop (blockLength s) s)
-unfolding recoverFrom
-recover-step f a l [] h = absurd (omega arith)
-recover-step f a l (b ∷ s) h = refl
-
-bound-step : (f g a l : ℕ) (s : List ℕ) → 0 < length s → length s ≤ suc f → length s ≤ suc g
-    → ((n k : ℕ) (z : List ℕ) → length z ≤ f → length z ≤ g → recoverFrom f n k z ≡ recoverFrom g n k z) → recoverFrom (suc f) a l s ≡ recoverFrom (suc g) a l s
-bound-step f g a l s h hf hg ih =
-    let n = blockLength s in
-    let x = take n s in
-    let lf : length (drop n s) ≤ f = rw length-drop (omega (arith, block-some s h)) in
-    let lg : length (drop n s) ≤ g = rw length-drop (omega (arith, block-some s h)) in
-    rw (recover-step f a l s h, recover-step g a l s h) (ap (λ z. blockRows a l n (part x) ++ z) (ih (a + n) (l + feeds x) (drop n s) lf lg))
-
--- any bound on the blocks that is enough gives the same
-pub recover-bound : (f g a l : ℕ) (s : List ℕ) → length s ≤ f → length s ≤ g → recoverFrom f a l s ≡ recoverFrom g a l s
-recover-bound zero g a l [] hf hg = rw (recover-nil zero a l, recover-nil g a l)
-recover-bound (suc f) g a l [] hf hg = rw (recover-nil (suc f) a l, recover-nil g a l)
-recover-bound zero g a l (c ∷ s) hf hg = absurd (omega arith)
-recover-bound (suc f) zero a l (c ∷ s) hf hg = absurd (omega arith)
-recover-bound (suc f) (suc g) a l (c ∷ s) hf hg = bound-step f g a l (c ∷ s) (omega arith) hf hg (λ n k z p q. recover-bound f g n k z p q)
-
--- ---- at a boundary the rows of both sides come one after the other
-
 pub feeds-parts : (n : ℕ) (s : List ℕ) → feeds (take n s) + feeds (drop n s) ≡ feeds s
 feeds-parts n s = sym (feeds-append (take n s) (drop n s)) ∙ ap feeds (take-append-drop n s)
 
-pub append-none : (t : List ℕ) (f g h a l : ℕ) → length t ≤ f → length t ≤ h → recoverFrom f a l t ≡ recoverFrom g a l [] ++ recoverFrom h (a + 0) (l + 0) t
-append-none t f g h a l hf hh = rw (recover-nil g a l, add-zero a, add-zero l) (recover-bound f h a l t hf hh)
+-- ---- block by block, in a profile
 
-module _ (t : List ℕ) (b : isStart (getD t 0 0) ≡ true) where
-  append-step : (f g h a l : ℕ) (p : List ℕ) → 0 < length p → length p + length t ≤ suc f → length p ≤ suc g → Ends p
-      → ((n k : ℕ) (z : List ℕ) → length z + length t ≤ f → length z ≤ g → Ends z
-      → recoverFrom f n k (z ++ t) ≡ recoverFrom g n k z ++ recoverFrom h (n + length z) (k + feeds z) t)
-      → recoverFrom (suc f) a l (p ++ t) ≡ recoverFrom (suc g) a l p ++ recoverFrom h (a + length p) (l + feeds p) t
-  append-step f g h a l p some hf hg e ih =
-      let n = blockLength p in
-      let nl : n ≤ length p = block-le p in
-      let np : 0 < n = block-some p some in
-      let z = drop n p in
-      let k = l + feeds (take n p) in
-      let lz : length z ≡ length p - n = length-drop n p in
-      let ea : a + n + length z ≡ a + length p = omega arith in
-      let el : k + feeds z ≡ l + feeds p = omega (arith, feeds-parts n p) in
-      rw (
-        recover-step f a l (p ++ t) (rw length-append (omega arith)),
-        recover-step g a l p some,
-        block-local p t some e b,
-        take-append-le n p t nl,
-        drop-append-le n p t nl,
-        ← ea,
-        ← el,
-        ih (a + n) k z (omega arith) (omega arith) (ends-drop n p nl e),
-      )
-      (sym (append-assoc (blockRows a l n (part (take n p))) (recoverFrom g (a + n) k z) (recoverFrom h (a + n + length z) (k + feeds z) t)))
+module _ (K : Profile) where
+  pub recover-nil : (f a l : ℕ) → recoverBy K f a l [] ≡ []
+  unfolding recoverBy
+  recover-nil zero a l = refl
+  recover-nil (suc f) a l = refl
 
-  pub recover-append : (f g h a l : ℕ) (p : List ℕ) → length p + length t ≤ f → length p ≤ g → length t ≤ h → Ends p
-      → recoverFrom f a l (p ++ t) ≡ recoverFrom g a l p ++ recoverFrom h (a + length p) (l + feeds p) t
-  unfolding feeds
-  recover-append zero g h a l [] hf hg hh e = append-none t zero g h a l (omega arith) hh
-  recover-append zero g h a l (c ∷ p) hf hg hh e = absurd (omega arith)
-  recover-append (suc f) g h a l [] hf hg hh e = append-none t (suc f) g h a l (omega arith) hh
-  recover-append (suc f) zero h a l (c ∷ p) hf hg hh e = absurd (omega arith)
-  recover-append (suc f) (suc g) h a l (c ∷ p) hf hg hh e =
-      append-step f g h a l (c ∷ p) (omega arith) hf hg e (λ n k z i j v. recover-append f g h n k z i j hh v)
+  pub recover-step : (f a l : ℕ) (s : List ℕ) → 0 < length s
+      → recoverBy K (suc f) a l s ≡ blockRows a l (blockLength s) (partBy K (take (blockLength s) s)) ++ recoverBy K f (a + blockLength s) (l + feeds (take (blockLength s) s)) (drop (blockLength s) s)
+  unfolding recoverBy
+  recover-step f a l [] h = absurd (omega arith)
+  recover-step f a l (b ∷ s) h = refl
+
+  bound-step : (f g a l : ℕ) (s : List ℕ) → 0 < length s → length s ≤ suc f → length s ≤ suc g
+      → ((n k : ℕ) (z : List ℕ) → length z ≤ f → length z ≤ g → recoverBy K f n k z ≡ recoverBy K g n k z) → recoverBy K (suc f) a l s ≡ recoverBy K (suc g) a l s
+  bound-step f g a l s h hf hg ih =
+      let n = blockLength s in
+      let x = take n s in
+      let lf : length (drop n s) ≤ f = rw length-drop (omega (arith, block-some s h)) in
+      let lg : length (drop n s) ≤ g = rw length-drop (omega (arith, block-some s h)) in
+      rw (recover-step f a l s h, recover-step g a l s h) (ap (λ z. blockRows a l n (partBy K x) ++ z) (ih (a + n) (l + feeds x) (drop n s) lf lg))
+
+  -- any bound on the blocks that is enough gives the same
+  pub recover-bound : (f g a l : ℕ) (s : List ℕ) → length s ≤ f → length s ≤ g → recoverBy K f a l s ≡ recoverBy K g a l s
+  recover-bound zero g a l [] hf hg = rw (recover-nil zero a l, recover-nil g a l)
+  recover-bound (suc f) g a l [] hf hg = rw (recover-nil (suc f) a l, recover-nil g a l)
+  recover-bound zero g a l (c ∷ s) hf hg = absurd (omega arith)
+  recover-bound (suc f) zero a l (c ∷ s) hf hg = absurd (omega arith)
+  recover-bound (suc f) (suc g) a l (c ∷ s) hf hg = bound-step f g a l (c ∷ s) (omega arith) hf hg (λ n k z p q. recover-bound f g n k z p q)
+
+  -- ---- at a boundary the rows of both sides come one after the other
+
+  pub append-none : (t : List ℕ) (f g h a l : ℕ) → length t ≤ f → length t ≤ h → recoverBy K f a l t ≡ recoverBy K g a l [] ++ recoverBy K h (a + 0) (l + 0) t
+  append-none t f g h a l hf hh = rw (recover-nil g a l, add-zero a, add-zero l) (recover-bound f h a l t hf hh)
+
+  module _ (t : List ℕ) (b : isStart (getD t 0 0) ≡ true) where
+    append-step : (f g h a l : ℕ) (p : List ℕ) → 0 < length p → length p + length t ≤ suc f → length p ≤ suc g → Ends p
+        → ((n k : ℕ) (z : List ℕ) → length z + length t ≤ f → length z ≤ g → Ends z
+        → recoverBy K f n k (z ++ t) ≡ recoverBy K g n k z ++ recoverBy K h (n + length z) (k + feeds z) t)
+        → recoverBy K (suc f) a l (p ++ t) ≡ recoverBy K (suc g) a l p ++ recoverBy K h (a + length p) (l + feeds p) t
+    append-step f g h a l p some hf hg e ih =
+        let n = blockLength p in
+        let nl : n ≤ length p = block-le p in
+        let np : 0 < n = block-some p some in
+        let z = drop n p in
+        let k = l + feeds (take n p) in
+        let lz : length z ≡ length p - n = length-drop n p in
+        let ea : a + n + length z ≡ a + length p = omega arith in
+        let el : k + feeds z ≡ l + feeds p = omega (arith, feeds-parts n p) in
+        rw (
+          recover-step f a l (p ++ t) (rw length-append (omega arith)),
+          recover-step g a l p some,
+          block-local p t some e b,
+          take-append-le n p t nl,
+          drop-append-le n p t nl,
+          ← ea,
+          ← el,
+          ih (a + n) k z (omega arith) (omega arith) (ends-drop n p nl e),
+        )
+        (sym (append-assoc (blockRows a l n (partBy K (take n p))) (recoverBy K g (a + n) k z) (recoverBy K h (a + n + length z) (k + feeds z) t)))
+
+    pub recover-append : (f g h a l : ℕ) (p : List ℕ) → length p + length t ≤ f → length p ≤ g → length t ≤ h → Ends p
+        → recoverBy K f a l (p ++ t) ≡ recoverBy K g a l p ++ recoverBy K h (a + length p) (l + feeds p) t
+    unfolding feeds
+    recover-append zero g h a l [] hf hg hh e = append-none t zero g h a l (omega arith) hh
+    recover-append zero g h a l (c ∷ p) hf hg hh e = absurd (omega arith)
+    recover-append (suc f) g h a l [] hf hg hh e = append-none t (suc f) g h a l (omega arith) hh
+    recover-append (suc f) zero h a l (c ∷ p) hf hg hh e = absurd (omega arith)
+    recover-append (suc f) (suc g) h a l (c ∷ p) hf hg hh e =
+        append-step f g h a l (c ∷ p) (omega arith) hf hg e (λ n k z i j v. recover-append f g h n k z i j hh v)

@@ -1,6 +1,7 @@
 pub mod BlockLaws
 pub mod CallLaws
 pub mod ReadingCut
+pub mod ProfileLaws
 pub mod Tail
 pub mod Refusals
 pub mod BlockEnds
@@ -8,3 +9,4 @@ pub mod BlockRows
 pub mod FrontLaws
 pub mod BlocksLaws
 pub mod RecoverLaws
+pub mod NoneLostLaws

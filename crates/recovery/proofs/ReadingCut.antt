@@ -20,8 +20,9 @@ use Rattle.entry.proofs.EntryCut.{Ends, entry-cut}
 use Rattle.entry.proofs.EntryForms.{entry-sound}
 use Rattle.entry.proofs.HeldLaws.{whole-append}
 use Rattle.ledger.specs.Plain.{moved, Reading, accepted, denied, after, readFrom, partAt, part}
+use Rattle.ledger.specs.steps.Scan.{movedReading}
 use Rattle.ledger.proofs.PlainLaws.{read-nil, read-got, read-refuse}
-use Rattle.ledger.proofs.MoveLaws.{after-none, after-after, movedReading, read-move, read-bound}
+use Rattle.ledger.proofs.MoveLaws.{after-none, after-after, read-move, read-bound}
 use Rattle.ledger.proofs.WholeMoved.{whole-moved}
 use Rattle.recovery.proofs.BlockLaws.{ends-drop, feeds-parts}
 

@@ -14,71 +14,73 @@ use Rattle.ledger.specs.Plain.{accepted, denied}
 use Rattle.ledger.specs.Answers.{answer, left}
 use Rattle.ledger.specs.steps.Scan.{withLine}
 use Rattle.ledger.specs.declared.read.Answer.{Answer}
+use Rattle.ledger.specs.declared.scan.Profile.{Profile}
 use Rattle.ledger.proofs.LinedRows.{lines-left}
-use Rattle.recovery.specs.Recovering.{recoverFrom, recovered}
+use Rattle.recovery.specs.Recovering.{recoverBy, recoveredBy}
 use Rattle.recovery.specs.steps.Front.{unlined, Front}
 use Rattle.recovery.proofs.FrontLaws.{front-filled}
 use Rattle.recovery.proofs.BlocksLaws.{recover-kept}
 
--- ---- refusal 1
+module _ (K : Profile) where
+  -- ---- refusal 1
 
-module _ (s : List ℕ) (h : 16777216 < length s) where
-  recovered-large : recovered s ≡ denied 1 0
-  unfolding recovered
-  recovered-large = rw (lt-leb (length s) 16777216 h)
+  module _ (s : List ℕ) (h : 16777216 < length s) where
+    recovered-large : recoveredBy K s ≡ denied 1 0
+    unfolding recoveredBy
+    recovered-large = rw (lt-leb (length s) 16777216 h)
 
-  pub large-answer : (room : ℕ) → Answer.Refusal 1 0 0 ≡ answer (recovered s) room
-  unfolding answer
-  large-answer room = rw recovered-large
-
-  pub large-left : (t : List ℕ) → t ≡ left (recovered s) t
-  unfolding left
-  large-left t = rw recovered-large
-
--- ---- n rows are wanted
-
-module _ (s : List ℕ) (l : length s ≤ 16777216) (n : ℕ) (e : n ≡ length (unlined s)) (t : List ℕ) where
-  abbrev all-rows : List Row
-  all-rows = recoverFrom (length s) 0 0 s
-
-  recovered-rows : recovered s ≡ accepted all-rows
-  unfolding recovered
-  recovered-rows = rw (le-leb (length s) 16777216 l)
-
-  wanted : n ≡ length all-rows
-  unfolding unlined
-  wanted = e ∙ length-map all-rows (withLine 0)
-
-  module _ (h : length t / 32 < n) where
-    short : length t / 32 < length all-rows
-    short = omega (arith, wanted)
-
-    pub short-answer : Answer.Refusal 9 0 n ≡ answer (recovered s) (length t / 32)
+    pub large-answer : (room : ℕ) → Answer.Refusal 1 0 0 ≡ answer (recoveredBy K s) room
     unfolding answer
-    short-answer = ap (Answer.Refusal 9 0) wanted ∙ rw (recovered-rows, lt-leb (length all-rows) (length t / 32) short)
+    large-answer room = rw recovered-large
 
-    pub short-left : t ≡ left (recovered s) t
+    pub large-left : (t : List ℕ) → t ≡ left (recoveredBy K s) t
     unfolding left
-    short-left = rw (recovered-rows, lt-leb (length all-rows) (length t / 32) short)
+    large-left t = rw recovered-large
 
-  module _ (h : n ≤ length t / 32) where
-    room : length all-rows ≤ length t / 32
-    room = omega (arith, wanted)
+  -- ---- n rows are wanted
 
-    pub rows-answer : Answer.Rows n ≡ answer (recovered s) (length t / 32)
-    unfolding answer
-    rows-answer = ap Answer.Rows wanted ∙ rw (recovered-rows, le-leb (length all-rows) (length t / 32) room)
+  module _ (s : List ℕ) (l : length s ≤ 16777216) (n : ℕ) (e : n ≡ length (unlined K s)) (t : List ℕ) where
+    abbrev all-rows : List Row
+    all-rows = recoverBy K (length s) 0 0 s
 
-    pub rows-left : (v u : List ℕ) → length v ≡ length (take (n * 32 - 0) (drop 0 t)) → Front (unlined s) (take (n * 32 - 0) (drop 0 t)) v
-        → u ≡ linesSet s n (putMid 0 (n * 32 - 0) t v) → u ≡ left (recovered s) t
+    recovered-rows : recoveredBy K s ≡ accepted all-rows
+    unfolding recoveredBy
+    recovered-rows = rw (le-leb (length s) 16777216 l)
+
+    wanted : n ≡ length all-rows
     unfolding unlined
-    rows-left v u k p q =
-        let z : n * 32 - 0 ≡ n * 32 = omega arith in
-        q
-        ∙ ap (λ x. linesSet s n (putMid 0 x t v)) z
-        ∙ ap (linesSet s n) (front-filled (map (withLine 0) all-rows) n t v e (omega arith) (rw z at k) (subst (λ x. Front (map (withLine 0) all-rows) (take x (drop 0 t)) v) z p))
-        ∙ ap (λ x. linesSet s x (pour (map (withLine 0) all-rows) t)) wanted
-        ∙ lines-left (suc refusalKind) s all-rows t (recover-kept (length s) 0 0 s) l room
-        ∙ ap (λ x. left x t) (sym recovered-rows)
+    wanted = e ∙ length-map all-rows (withLine 0)
+
+    module _ (h : length t / 32 < n) where
+      short : length t / 32 < length all-rows
+      short = omega (arith, wanted)
+
+      pub short-answer : Answer.Refusal 9 0 n ≡ answer (recoveredBy K s) (length t / 32)
+      unfolding answer
+      short-answer = ap (Answer.Refusal 9 0) wanted ∙ rw (recovered-rows, lt-leb (length all-rows) (length t / 32) short)
+
+      pub short-left : t ≡ left (recoveredBy K s) t
+      unfolding left
+      short-left = rw (recovered-rows, lt-leb (length all-rows) (length t / 32) short)
+
+    module _ (h : n ≤ length t / 32) where
+      room : length all-rows ≤ length t / 32
+      room = omega (arith, wanted)
+
+      pub rows-answer : Answer.Rows n ≡ answer (recoveredBy K s) (length t / 32)
+      unfolding answer
+      rows-answer = ap Answer.Rows wanted ∙ rw (recovered-rows, le-leb (length all-rows) (length t / 32) room)
+
+      pub rows-left : (v u : List ℕ) → length v ≡ length (take (n * 32 - 0) (drop 0 t)) → Front (unlined K s) (take (n * 32 - 0) (drop 0 t)) v
+          → u ≡ linesSet s n (putMid 0 (n * 32 - 0) t v) → u ≡ left (recoveredBy K s) t
+      unfolding unlined
+      rows-left v u k p q =
+          let z : n * 32 - 0 ≡ n * 32 = omega arith in
+          q
+          ∙ ap (λ x. linesSet s n (putMid 0 x t v)) z
+          ∙ ap (linesSet s n) (front-filled (map (withLine 0) all-rows) n t v e (omega arith) (rw z at k) (subst (λ x. Front (map (withLine 0) all-rows) (take x (drop 0 t)) v) z p))
+          ∙ ap (λ x. linesSet s x (pour (map (withLine 0) all-rows) t)) wanted
+          ∙ lines-left (suc refusalKind) s all-rows t (recover-kept K (length s) 0 0 s) l room
+          ∙ ap (λ x. left x t) (sym recovered-rows)
 
 pub ruleset recover-laws = (large-answer, large-left, short-answer, short-left, rows-answer, rows-left)

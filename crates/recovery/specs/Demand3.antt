@@ -2,7 +2,9 @@
 -- line starting so. Put any bytes before it, none or ending in a line feed. With the size limit kept and room for all rows, recovering reading gives for the tail
 -- plain reading's rows, moved by the length and line feeds before it. A refused block gives one refusal row.
 --
--- The reading rules enter by three names alone: `plain`, plain reading; `recovered`, recovering reading; `whole`, demand 3's strings.
+-- It is said of both profiles, K: strict reading of a tail, and strict recovering reading, as plain reading and recovering reading.
+--
+-- The reading rules enter by three names alone: `readingBy`, plain or strict reading; `recoveredBy`, recovering reading; `whole`, demand 3's strings.
 use Prim.Native.Nat.{ℕ, _+_, _*_, _/_, _≤_}
 use mathlib.Core.Path.{_≡_}
 use mathlib.Core.Bool.{Bool, true, false, _||_, _&&_}
@@ -15,10 +17,12 @@ use Rattle.row.specs.declared.table.Row.{Row}
 use Rattle.row.specs.Row.{rowOf, rowsBytes, width, feeds}
 use Rattle.row.specs.Strings.{holds}
 use Rattle.entry.specs.Lost.{whole}
-use Rattle.ledger.specs.Plain.{moved, accepted, denied, plain, sizeLimit}
+use Rattle.ledger.specs.Plain.{moved, accepted, denied, sizeLimit}
+use Rattle.ledger.specs.Strict.{readingBy}
 use Rattle.ledger.specs.Answers.{answer, left}
 use Rattle.ledger.specs.declared.read.Answer.{Answer}
-use Rattle.recovery.specs.Recovering.{recoverFrom, recovered}
+use Rattle.ledger.specs.declared.scan.Profile.{Profile}
+use Rattle.recovery.specs.Recovering.{recoverBy, recoveredBy}
 
 -- ---- the words of the premises
 
@@ -40,9 +44,9 @@ keptStrings t rs = whole t rs
 
 -- ---- the tail t has the plain rows ts; the bytes p stand before it
 
-pub record Given (p t : List ℕ) (ts : List Row) : Type 0 where
+pub record Given (K : Profile) (p t : List ℕ) (ts : List Row) : Type 0 where
   pub starts : startsTail t ≡ true
-  pub read : plain t ≡ accepted ts
+  pub read : readingBy K t ≡ accepted ts
   pub strings : keptStrings t ts ≡ true
   pub ends : endsLine p ≡ true
   pub size : length (p ++ t) ≤ sizeLimit
@@ -52,29 +56,29 @@ abbrev pub thenTail : List Row → List ℕ → List Row → List Row
 thenTail ps p ts = ps ++ moved (length p) (feeds p) ts
 
 -- the bytes p are accepted alone, and with the tail behind them their rows come first and the tail's, moved, after them
-pub record Gives (p t : List ℕ) (ts : List Row) : Type 0 where
+pub record Gives (K : Profile) (p t : List ℕ) (ts : List Row) : Type 0 where
   pub before : List Row
-  pub alone : recovered p ≡ accepted before
-  pub together : recovered (p ++ t) ≡ accepted (thenTail before p ts)
+  pub alone : recoveredBy K p ≡ accepted before
+  pub together : recoveredBy K (p ++ t) ≡ accepted (thenTail before p ts)
 
-abbrev pub Demand3 : Type 0
-Demand3 = (p t : List ℕ) (ts : List Row) → Given p t ts → Gives p t ts
+abbrev pub Demand3 : Profile → Type 0
+Demand3 K = (p t : List ℕ) (ts : List Row) → Given K p t ts → Gives K p t ts
 
 -- ---- as a call sees it: on a table with room for the rows rs it answers their number, and the table has their bytes, and past them what it had
 
-pub record Writes (ledger table : List ℕ) (rs : List Row) : Type 0 where
-  pub answers : answer (recovered ledger) (length table / width) ≡ Answer.Rows (length rs)
-  pub leaves : left (recovered ledger) table ≡ rowsBytes rs ++ drop (length rs * width) table
+pub record Writes (K : Profile) (ledger table : List ℕ) (rs : List Row) : Type 0 where
+  pub answers : answer (recoveredBy K ledger) (length table / width) ≡ Answer.Rows (length rs)
+  pub leaves : left (recoveredBy K ledger) table ≡ rowsBytes rs ++ drop (length rs * width) table
 
-abbrev pub Demand3Call : Type 0
-Demand3Call =
-    (p t : List ℕ) (ts ps : List Row) (table : List ℕ) → Given p t ts → recovered p ≡ accepted ps
-    → length (thenTail ps p ts) ≤ length table / width → Writes (p ++ t) table (thenTail ps p ts)
+abbrev pub Demand3Call : Profile → Type 0
+Demand3Call K =
+    (p t : List ℕ) (ts ps : List Row) (table : List ℕ) → Given K p t ts → recoveredBy K p ≡ accepted ps
+    → length (thenTail ps p ts) ≤ length table / width → Writes K (p ++ t) table (thenTail ps p ts)
 
--- ---- on a ledger that is not damaged, and none of whose strings holds such a line, recovering reading is plain reading
+-- ---- on a ledger that is not damaged, and none of whose strings holds such a line, recovering reading is that reading
 
-abbrev pub Undamaged : Type 0
-Undamaged = (s : List ℕ) (rs : List Row) → plain s ≡ accepted rs → keptStrings s rs ≡ true → recovered s ≡ plain s
+abbrev pub Undamaged : Profile → Type 0
+Undamaged K = (s : List ℕ) (rs : List Row) → readingBy K s ≡ accepted rs → keptStrings s rs ≡ true → recoveredBy K s ≡ readingBy K s
 
 -- ---- a refused block gives one refusal row
 
@@ -84,12 +88,12 @@ cutApart [] v = true
 cutApart (b ∷ u) [] = true
 cutApart (b ∷ u) (c ∷ v) = endsLine (b ∷ u) && startsTail (c ∷ v)
 
--- x is one block, behind the bytes p and before the bytes t, and plain reading refuses it with number k at its place q
-pub record RefusedBlock (p x t : List ℕ) (k q : ℕ) : Type 0 where
+-- x is one block, behind the bytes p and before the bytes t, and reading refuses it with number k at its place q
+pub record RefusedBlock (K : Profile) (p x t : List ℕ) (k q : ℕ) : Type 0 where
   pub one : holds x ≡ false
   pub from : cutApart p x ≡ true
   pub upto : cutApart x t ≡ true
-  pub refused : plain x ≡ denied k q
+  pub refused : readingBy K x ≡ denied k q
   pub size : length (p ++ (x ++ t)) ≤ sizeLimit
 
 -- the block's span and line, the refusal's number, and its place in the ledger
@@ -97,7 +101,7 @@ abbrev pub refusalRow : List ℕ → List ℕ → ℕ → ℕ → Row
 refusalRow p x k q = rowOf 90 (length p) (length p + length x) (feeds p + 1) k (length p + q) (pos 0)
 
 -- the rows of what stands before the block, its one row, and the rows of what stands behind it
-abbrev pub OneRefusalRow : Type 0
-OneRefusalRow =
-    (p x t : List ℕ) (k q : ℕ) → RefusedBlock p x t k q
-    → recovered (p ++ (x ++ t)) ≡ accepted (recoverFrom (length p) 0 0 p ++ (refusalRow p x k q ∷ recoverFrom (length t) (length p + length x) (feeds p + feeds x) t))
+abbrev pub OneRefusalRow : Profile → Type 0
+OneRefusalRow K =
+    (p x t : List ℕ) (k q : ℕ) → RefusedBlock K p x t k q
+    → recoveredBy K (p ++ (x ++ t)) ≡ accepted (recoverBy K (length p) 0 0 p ++ (refusalRow p x k q ∷ recoverBy K (length t) (length p + length x) (feeds p + feeds x) t))

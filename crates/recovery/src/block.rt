@@ -1,5 +1,6 @@
 // A block of a ledger: where it ends, and its rows.
 use ledger::scan;
+use ledger::scan::Profile;
 use ledger::scan::Scan;
 use row::table;
 use row::table::Row;
@@ -40,12 +41,12 @@ pub fn block_length(s: &[u8]) -> usize
 
 // Reads the block s, which starts at place `base`; its rows, or the row of its refusal, go to the table's front, where they all fit, with no lines
 // yet. What stands behind them in the table may change too.
-pub fn block(s: &[u8], base: usize, table: &mut [u8]) -> usize
+pub fn block(s: &[u8], base: usize, table: &mut [u8], profile: Profile) -> usize
     requires { ⌜ base + length (now s) ≤ 16777216 ⌝ }
-    ensures answer { λ r. ⌜ r ≡ length (unlinedBlock base (now (s .entry))) ⌝ }
-    ensures rows { λ _. ⌜ Front (unlinedBlock base (now (s .entry))) (now (table .entry)) (now (table .exit)) ⌝ }
+    ensures answer { λ r. ⌜ r ≡ length (unlinedBlock profile base (now (s .entry))) ⌝ }
+    ensures rows { λ _. ⌜ Front (unlinedBlock profile base (now (s .entry))) (now (table .entry)) (now (table .exit)) ⌝ }
 {
-    let m = scan::part(s, base, table);
+    let m = scan::part(s, base, table, profile);
     match m {
         Scan::Stopped(number, place) => {
             table::put_front(

@@ -2,6 +2,7 @@
 use crate::block;
 use ledger::read::Answer;
 use ledger::read::SIZE;
+use ledger::scan::Profile;
 use row::lines;
 use row::table;
 use row::table::WIDTH;
@@ -9,30 +10,30 @@ ghost use mathlib.Core.Path.{_≡_};
 ghost use Prim.Native.Nat.{_/_, _≤_};
 ghost use lib.ListN.{length};
 ghost use Rattle.ledger.specs.Answers.{answer, left};
-ghost use Rattle.recovery.specs.Recovering.{recovered};
+ghost use Rattle.recovery.specs.Recovering.{recoveredBy, recovered, recoveredStrictly};
 ghost use Rattle.recovery.specs.steps.Front.{unlined, Front};
 
 // Block by block: so many rows, which go to the table's front, where they all fit, with no lines yet. What stands behind them may change too.
-fn blocks(s: &[u8], table: &mut [u8]) -> usize
+fn blocks(s: &[u8], table: &mut [u8], profile: Profile) -> usize
     requires { ⌜ length (now s) ≤ 16777216 ⌝ }
-    ensures answer { λ r. ⌜ r ≡ length (unlined (now (s .entry))) ⌝ }
-    ensures rows { λ _. ⌜ Front (unlined (now (s .entry))) (now (table .entry)) (now (table .exit)) ⌝ }
+    ensures answer { λ r. ⌜ r ≡ length (unlined profile (now (s .entry))) ⌝ }
+    ensures rows { λ _. ⌜ Front (unlined profile (now (s .entry))) (now (table .entry)) (now (table .exit)) ⌝ }
 {
     let mut at = 0;
     let mut n = 0;
     while at < s.len() {
         let end = at + block::block_length(&s[at..]);
         let k = table::place(n, table.len());
-        n += block::block(&s[at..end], at, &mut table[k..]);
+        n += block::block(&s[at..end], at, &mut table[k..], profile);
         at = end;
     }
     n
 }
 
-// Recovering reading of a ledger into a row table. A refusal leaves every byte of the table.
-pub fn recover(ledger: &[u8], table: &mut [u8]) -> Answer
-    ensures answer { λ r. ⌜ r ≡ answer (recovered (now (ledger .entry))) (length (now (table .entry)) / 32) ⌝ }
-    ensures rows { λ _. ⌜ now (table .exit) ≡ left (recovered (now (ledger .entry))) (now (table .entry)) ⌝ }
+// Recovering reading of a ledger, in a profile, into a row table. A refusal leaves every byte of the table.
+fn recover_by(ledger: &[u8], table: &mut [u8], profile: Profile) -> Answer
+    ensures answer { λ r. ⌜ r ≡ answer (recoveredBy profile (now (ledger .entry))) (length (now (table .entry)) / 32) ⌝ }
+    ensures rows { λ _. ⌜ now (table .exit) ≡ left (recoveredBy profile (now (ledger .entry))) (now (table .entry)) ⌝ }
 {
     if SIZE < ledger.len() {
         return Answer::Refusal {
@@ -42,7 +43,7 @@ pub fn recover(ledger: &[u8], table: &mut [u8]) -> Answer
         };
     }
     let mut none = [0u8; 1];
-    let n = blocks(ledger, &mut none);
+    let n = blocks(ledger, &mut none, profile);
     if table.len() / WIDTH < n {
         return Answer::Refusal {
             number: 9,
@@ -51,7 +52,23 @@ pub fn recover(ledger: &[u8], table: &mut [u8]) -> Answer
         };
     }
     let end = n * WIDTH;
-    blocks(ledger, &mut table[0..end]);
+    blocks(ledger, &mut table[0..end], profile);
     lines::set_lines(ledger, table, n);
     Answer::Rows(n)
+}
+
+// Recovering reading, each block read plainly.
+pub fn recover(ledger: &[u8], table: &mut [u8]) -> Answer
+    ensures answer { λ r. ⌜ r ≡ answer (recovered (now (ledger .entry))) (length (now (table .entry)) / 32) ⌝ }
+    ensures rows { λ _. ⌜ now (table .exit) ≡ left (recovered (now (ledger .entry))) (now (table .entry)) ⌝ }
+{
+    recover_by(ledger, table, Profile::Plain)
+}
+
+// Recovering reading, each block read strictly (M-110).
+pub fn recover_strict(ledger: &[u8], table: &mut [u8]) -> Answer
+    ensures answer { λ r. ⌜ r ≡ answer (recoveredStrictly (now (ledger .entry))) (length (now (table .entry)) / 32) ⌝ }
+    ensures rows { λ _. ⌜ now (table .exit) ≡ left (recoveredStrictly (now (ledger .entry))) (now (table .entry)) ⌝ }
+{
+    recover_by(ledger, table, Profile::Strict)
 }

@@ -6,13 +6,11 @@ use mathlib.Core.List.{List}
 use lib.Dec.{eqb}
 use borrow.Author.Tests.{ne-eqb}
 use Rattle.decimal.specs.declared.Form.the-variants.{Exact, Rounding}
-use Rattle.ledger.specs.Plain.{plain}
-use Rattle.recovery.specs.Recovering.{recovered}
 use Rattle.lumbrisse.specs.Promises.{TablePromise, ContentPromise, ExpressionPromise, TagPromise, SpanPromise, PacketPromise}
 use Rattle.lumbrisse.specs.declared.reply as box
 use Rattle.replay.specs.declared.case.Case.{Case}
 use Rattle.replay.specs.declared.call.Outcome.{Outcome}
-use Rattle.replay.specs.Replies.{ofReply, ofEvaluated, ofPart, isRounding, isExact, stepped, steppedLeft, edited, editedLeft, outcome, leftBy}
+use Rattle.replay.specs.Replies.{ofReply, ofEvaluated, ofPart, isReading, readingOf, isRounding, isExact, stepped, steppedLeft, edited, editedLeft, outcome, leftBy}
 
 pub evaluated-told : (e : box.Evaluated.Evaluated) (v : ℕ) → v ≡ e .bits
     → Outcome.Answered (record { number = e .number; place = e .place; count = 0; value = v; tag = 0 }) ≡ Outcome.Answered (ofEvaluated e)
@@ -21,13 +19,10 @@ evaluated-told e v w = rw w
 module _ (c : Case) (s u t : List ℕ) where
   -- an export's reply r, as it promises it
   module _ (o : Outcome) (r : box.Reply.Reply) (w : o ≡ Outcome.Answered (ofReply r)) where
-    pub made-plain : c .call ≡ 1 → (v : List ℕ) → TablePromise (plain s) t r v → o ≡ outcome c s u t
+    -- n is the number that the code knows the call by
+    pub made-reading : (n : ℕ) → c .call ≡ n → isReading n ≡ true → (v : List ℕ) → TablePromise (readingOf n s) t r v → o ≡ outcome c s u t
     unfolding outcome
-    made-plain e v p = rw (w, e, p .reply)
-
-    pub made-recovering : c .call ≡ 2 → (v : List ℕ) → TablePromise (recovered s) t r v → o ≡ outcome c s u t
-    unfolding outcome
-    made-recovering e v p = rw (w, e, p .reply)
+    made-reading n e h v p = rw (w, e, h, p .reply)
 
     pub made-content : c .call ≡ 4 → (v : List ℕ) → ContentPromise s t r v → o ≡ outcome c s u t
     unfolding outcome
@@ -42,15 +37,14 @@ module _ (c : Case) (s u t : List ℕ) where
     made-force e p = rw (w, e, p)
 
   module _ (o : Outcome) (r : box.Evaluated.Evaluated) (w : o ≡ Outcome.Answered (ofEvaluated r)) where
-    -- n is the number that the code knows the call by
-    module _ (n : ℕ) (e : c .call ≡ n) where
+    module _ (n : ℕ) (e : c .call ≡ n) (y : isReading n ≡ false) where
       pub made-rounding : isRounding n ≡ true → ExpressionPromise Rounding s r → o ≡ outcome c s u t
       unfolding outcome
-      made-rounding h p = rw (w, e, h, p)
+      made-rounding h p = rw (w, e, y, h, p)
 
       pub made-exact : isRounding n ≡ false → isExact n ≡ true → ExpressionPromise Exact s r → o ≡ outcome c s u t
       unfolding outcome
-      made-exact z h p = rw (w, e, z, h, p)
+      made-exact z h p = rw (w, e, y, z, h, p)
 
   pub made-part : (o : Outcome) (r : box.Part.Part) → o ≡ Outcome.Answered (ofPart r) → c .call ≡ 5 → SpanPromise s (c .a) (c .b) r → o ≡ outcome c s u t
   unfolding outcome
@@ -64,7 +58,7 @@ module _ (c : Case) (s u t : List ℕ) where
   unfolding outcome
   made-step o e w = rw (w, e)
 
-  module _ (n1 : c .call ≡ 1 → ⊥) (n2 : c .call ≡ 2 → ⊥) (n4 : c .call ≡ 4 → ⊥) (n14 : c .call ≡ 14 → ⊥) (n15 : c .call ≡ 15 → ⊥) (n16 : c .call ≡ 16 → ⊥) where
+  module _ (n1 : c .call ≡ 1 → ⊥) (n2 : c .call ≡ 2 → ⊥) (n7 : c .call ≡ 7 → ⊥) (n8 : c .call ≡ 8 → ⊥) (n4 : c .call ≡ 4 → ⊥) (n14 : c .call ≡ 14 → ⊥) (n15 : c .call ≡ 15 → ⊥) (n16 : c .call ≡ 16 → ⊥) where
     pub made-unknown : (c .call ≡ 3 → ⊥) → (c .call ≡ 5 → ⊥) → (c .call ≡ 6 → ⊥) → (c .call ≡ 9 → ⊥) → (c .call ≡ 12 → ⊥) → (c .call ≡ 13 → ⊥)
         → Outcome.Unknown ≡ outcome c s u t
     unfolding outcome
@@ -76,6 +70,8 @@ module _ (c : Case) (s u t : List ℕ) where
           ne-eqb (c .call) 4 n4,
           ne-eqb (c .call) 5 n5,
           ne-eqb (c .call) 6 n6,
+          ne-eqb (c .call) 7 n7,
+          ne-eqb (c .call) 8 n8,
           ne-eqb (c .call) 9 n9,
           ne-eqb (c .call) 12 n12,
           ne-eqb (c .call) 13 n13,
@@ -87,13 +83,9 @@ module _ (c : Case) (s u t : List ℕ) where
 -- ---- the lent buffer: w is what the call left
 module _ (c : Case) (s u t : List ℕ) where
   module _ (w : List ℕ) (r : box.Reply.Reply) where
-    pub left-plain : c .call ≡ 1 → TablePromise (plain s) t r w → w ≡ leftBy c s u t
+    pub left-reading : (n : ℕ) → c .call ≡ n → isReading n ≡ true → TablePromise (readingOf n s) t r w → w ≡ leftBy c s u t
     unfolding leftBy
-    left-plain e p = rw e (p .rows)
-
-    pub left-recovering : c .call ≡ 2 → TablePromise (recovered s) t r w → w ≡ leftBy c s u t
-    unfolding leftBy
-    left-recovering e p = rw e (p .rows)
+    left-reading n e h p = rw (e, h) (p .rows)
 
     pub left-content : c .call ≡ 4 → ContentPromise s t r w → w ≡ leftBy c s u t
     unfolding leftBy
@@ -112,12 +104,12 @@ module _ (c : Case) (s u t : List ℕ) where
   left-step w e p = rw e p
 
   -- a call that writes nothing, known by its number n
-  pub left-alone : (n : ℕ) → c .call ≡ n → eqb n 1 ≡ false → eqb n 2 ≡ false → eqb n 4 ≡ false → eqb n 14 ≡ false → eqb n 15 ≡ false → eqb n 16 ≡ false → t ≡ leftBy c s u t
+  pub left-alone : (n : ℕ) → c .call ≡ n → isReading n ≡ false → eqb n 4 ≡ false → eqb n 14 ≡ false → eqb n 15 ≡ false → eqb n 16 ≡ false → t ≡ leftBy c s u t
   unfolding leftBy
-  left-alone n e n1 n2 n4 n14 n15 n16 = rw (e, n1, n2, n4, n14, n15, n16)
+  left-alone n e y n4 n14 n15 n16 = rw (e, y, n4, n14, n15, n16)
 
-  pub left-unknown : (c .call ≡ 1 → ⊥) → (c .call ≡ 2 → ⊥) → (c .call ≡ 4 → ⊥) → (c .call ≡ 14 → ⊥) → (c .call ≡ 15 → ⊥) → (c .call ≡ 16 → ⊥) → t ≡ leftBy c s u t
+  pub left-unknown : (c .call ≡ 1 → ⊥) → (c .call ≡ 2 → ⊥) → (c .call ≡ 7 → ⊥) → (c .call ≡ 8 → ⊥) → (c .call ≡ 4 → ⊥) → (c .call ≡ 14 → ⊥) → (c .call ≡ 15 → ⊥) → (c .call ≡ 16 → ⊥) → t ≡ leftBy c s u t
   unfolding leftBy
-  left-unknown n1 n2 n4 n14 n15 n16 = rw (ne-eqb (c .call) 1 n1, ne-eqb (c .call) 2 n2, ne-eqb (c .call) 4 n4, ne-eqb (c .call) 14 n14, ne-eqb (c .call) 15 n15, ne-eqb (c .call) 16 n16)
+  left-unknown n1 n2 n7 n8 n4 n14 n15 n16 = rw (ne-eqb (c .call) 1 n1, ne-eqb (c .call) 2 n2, ne-eqb (c .call) 7 n7, ne-eqb (c .call) 8 n8, ne-eqb (c .call) 4 n4, ne-eqb (c .call) 14 n14, ne-eqb (c .call) 15 n15, ne-eqb (c .call) 16 n16)
 
-pub ruleset made-laws = (evaluated-told, made-plain, made-recovering, made-rounding, made-exact, made-content, made-packet, made-part, made-force, made-edit, made-step, made-unknown, left-plain, left-recovering, left-content, left-packet, left-edit, left-step, left-alone, left-unknown)
+pub ruleset made-laws = (evaluated-told, made-reading, made-rounding, made-exact, made-content, made-packet, made-part, made-force, made-edit, made-step, made-unknown, left-reading, left-content, left-packet, left-edit, left-step, left-alone, left-unknown)

@@ -6,8 +6,9 @@ use lib.Dec.{eqb, leb}
 use lib.ListN.{length, take, drop}
 use Rattle.row.specs.Row.{width}
 use Rattle.ledger.specs.Plain.{Reading, plain}
+use Rattle.ledger.specs.Strict.{strict}
 use Rattle.ledger.specs.Answers.{answer, left}
-use Rattle.recovery.specs.Recovering.{recovered}
+use Rattle.recovery.specs.Recovering.{recovered, recoveredStrictly}
 use Rattle.edit.specs.Edits.{editing}
 use Rattle.decimal.specs.declared.Form.the-variants.{Exact, Rounding}
 use Rattle.access.specs.Single.{evaluated}
@@ -67,30 +68,34 @@ isRounding k = eqb k 3 || eqb k 12
 abbrev pub isExact : ℕ → Bool
 isExact k = eqb k 9 || eqb k 13
 
+-- the calls that read a ledger into a row table: plain and recovering reading, and both in the strict profile (M-110)
+abbrev pub isReading : ℕ → Bool
+isReading k = eqb k 1 || eqb k 2 || eqb k 7 || eqb k 8
+
+abbrev pub readingOf : ℕ → List ℕ → Reading
+readingOf k s = cond (eqb k 1) (plain s) (cond (eqb k 2) (recovered s) (cond (eqb k 7) (strict s) (recoveredStrictly s)))
+
 -- the call of a case with two texts and a lent buffer
 unfoldable pub outcome : Case → List ℕ → List ℕ → List ℕ → Outcome
 outcome c s u t =
     let k = c .call in
-    let plainly = Outcome.Answered (ofReply (replyOf (answer (plain s) (length t / 32)))) in
-    let recovering = Outcome.Answered (ofReply (replyOf (answer (recovered s) (length t / 32)))) in
+    let reading = Outcome.Answered (ofReply (replyOf (answer (readingOf k s) (length t / width)))) in
     let single = Outcome.Answered (ofEvaluated (evaluatedOf (evaluated Rounding s))) in
     let singleExact = Outcome.Answered (ofEvaluated (evaluatedOf (evaluated Exact s))) in
     let content = Outcome.Answered (ofReply (writtenReply (contentAnswer s (length t)))) in
     let part = Outcome.Answered (ofPart (partOf s (c .a) (c .b))) in
     let force = Outcome.Answered (ofReply (forceReply (inForce s t (c .a) u))) in
     let packet = Outcome.Answered (ofReply (writtenReply (written s (c .a) u (length t)))) in
-    cond (isRounding k) single
+    cond (isReading k) reading
+    (cond (isRounding k) single
     (cond (isExact k) singleExact
-    (cond (eqb k 1) plainly
-    (cond (eqb k 2) recovering
     (cond (eqb k 4) content
-    (cond (eqb k 5) part (cond (eqb k 6) force (cond (eqb k 14) (edited c s u t) (cond (eqb k 15) packet (cond (eqb k 16) (stepped (c .a) (c .b) s t) Outcome.Unknown)))))))))
+    (cond (eqb k 5) part (cond (eqb k 6) force (cond (eqb k 14) (edited c s u t) (cond (eqb k 15) packet (cond (eqb k 16) (stepped (c .a) (c .b) s t) Outcome.Unknown))))))))
 
--- the lent buffer afterwards: both readings, string content, an edit, a packet and a step of its reader write
+-- the lent buffer afterwards: readings, string content, an edit, a packet and a step of its reader write
 unfoldable pub leftBy : Case → List ℕ → List ℕ → List ℕ → List ℕ
 leftBy c s u t =
     let k = c .call in
-    cond (eqb k 1) (left (plain s) t)
-    (cond (eqb k 2) (left (recovered s) t)
+    cond (isReading k) (left (readingOf k s) t)
     (cond (eqb k 4) (contentLeft s t)
-    (cond (eqb k 14) (editedLeft c s u t) (cond (eqb k 15) (writtenLeft s (c .a) u t) (cond (eqb k 16) (steppedLeft (c .a) (c .b) s t) t)))))
+    (cond (eqb k 14) (editedLeft c s u t) (cond (eqb k 15) (writtenLeft s (c .a) u t) (cond (eqb k 16) (steppedLeft (c .a) (c .b) s t) t))))

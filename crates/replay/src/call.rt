@@ -21,6 +21,10 @@ pub const SPAN: usize = 5;
 
 pub const FORCE: usize = 6;
 
+pub const STRICT: usize = 7;
+
+pub const RECOVERING_STRICT: usize = 8;
+
 pub const SINGLE_EXACT: usize = 9;
 
 pub const STACKED: usize = 12;
@@ -105,6 +109,8 @@ pub fn made(c: Case, first: &[u8], second: &[u8], lent: &mut [u8], spare: &mut [
         CONTENT => of_reply(lumbrisse::lumbrisse_content(first, lent)),
         SPAN => of_part(lumbrisse::lumbrisse_span(first, c.a, c.b)),
         FORCE => of_reply(lumbrisse::lumbrisse_tag_in_force(first, lent, c.a, second)),
+        STRICT => of_reply(lumbrisse::lumbrisse_read_strict(first, lent)),
+        RECOVERING_STRICT => of_reply(lumbrisse::lumbrisse_recover_strict(first, lent)),
         SINGLE_EXACT => of_evaluated(lumbrisse::lumbrisse_expression_exact(first)),
         STACKED => of_evaluated(lumbrisse::lumbrisse_expression_stacked(first)),
         STACKED_EXACT => of_evaluated(lumbrisse::lumbrisse_expression_stacked_exact(first)),

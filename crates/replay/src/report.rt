@@ -19,6 +19,8 @@ fn write_name(call: usize) {
         call::CONTENT => write(b"string content"),
         call::SPAN => write(b"text of a span"),
         call::FORCE => write(b"tag in force"),
+        call::STRICT => write(b"strict reading"),
+        call::RECOVERING_STRICT => write(b"strict recovering reading"),
         call::SINGLE_EXACT => write(b"single expression, exact"),
         call::PACKET => write(b"packet"),
         call::STEP => write(b"step of a packet's reader"),

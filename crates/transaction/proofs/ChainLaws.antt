@@ -12,7 +12,7 @@ use Rattle.text.proofs.Joins.{Reach}
 use Rattle.text.proofs.TokenEnds.{line-reach}
 use Rattle.amount.specs.Details.{Rows}
 use Rattle.amount.specs.declared.detail.Detail.{Detail}
-use Rattle.amount.proofs.RowCounts.{Fits, fits-at, maybe-fits}
+use Rattle.amount.proofs.RowCounts.{FitsFrom, Fits, fits-at, maybe-fits}
 use Rattle.row.specs.steps.Writing.{Did}
 use Rattle.row.specs.declared.writer.Out.{Out}
 use Rattle.row.specs.declared.writer.Ran.{Ran}
@@ -36,7 +36,7 @@ module _ (base : ℕ) (o : Out) (t v : List ℕ) (r : Ran) (a : Rows) (d : Did b
   pub part-within : (n at : ℕ) → Reach n at a → e ≤ n
   part-within n at R = let z = was-read base o t v r a e m d q in subst (Reach n at) (z .1) R .ends .1
 
-  pub part-rows : {s : List ℕ} (at : ℕ) → Fits s at a → o .rows ≤ at → m .rows ≤ e
+  pub part-rows : {low : ℕ} {s : List ℕ} (at : ℕ) → FitsFrom low s at a → o .rows ≤ at → m .rows ≤ e
   part-rows at F h =
       let z = was-read base o t v r a e m d q in
       omega (arith, ap (λ (y : Out). y .rows) (z .2 .0), rows-outs (z .0) o, fits-at at e (z .0) a F (z .1) .1)

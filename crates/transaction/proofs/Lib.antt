@@ -4,3 +4,4 @@ pub mod TransactionAgree
 pub mod HeadLaws
 pub mod MarkLaws
 pub mod ChainLaws
+pub mod Openings

@@ -1,27 +1,24 @@
--- Rule 11: the rows of a transaction stand in order, and are no more than its bytes.
+-- Rule 11: the rows of a transaction's parts stand in order within their bytes, and are no more than these.
 use Prim.Native.Nat.{ℕ, suc, _+_, _≤_}
 use native.Mathlib.Omega.{arith}
 use mathlib.Core.List.{List}
 use lib.ListN.{length}
 use Rattle.text.specs.Bytes.{bytes, isBlank}
 use Rattle.text.specs.Run.{blanks}
-use Rattle.text.specs.Answer.{must, maybe}
-use Rattle.text.specs.Leaves.{lineEnd}
-use Rattle.text.proofs.Joins.{reach-from, must-reach}
-use Rattle.text.proofs.TokenEnds.{run-reach, line-reach, string-reach, tag-reach, link-reach, word-reach}
-use Rattle.amount.proofs.RowCounts.{Fits, to-fits, must-fits, else-fits, and-fits, maybe-fits, many-fits, bare-fits, bare-and, word-bare, string-and, tag-and, link-and}
-use Rattle.posting.specs.Metadata.{metadata}
+use Rattle.text.proofs.Joins.{reach-from}
+use Rattle.text.proofs.TokenEnds.{run-reach, string-reach, tag-reach, link-reach, word-reach}
+use Rattle.amount.proofs.RowCounts.{flagKind, FitsFrom, Fits, to-fits, else-fits, many-fits, bare-fits, bare-and, word-bare, string-and, tag-and, link-and}
 use Rattle.posting.specs.Postings.{flag}
-use Rattle.posting.proofs.PostingEnds.{optional-reach, metadata-reach, flag-reach}
-use Rattle.posting.proofs.PostingFew.{line-fits, gap-and, metadata-fits, flag-bare, body-fits}
-use Rattle.transaction.specs.Transaction.{opening, texts, mark, marks, transaction}
-use Rattle.transaction.proofs.TransactionEnds.{opening-reach, texts-reach, mark-reach, marks-reach}
+use Rattle.posting.proofs.PostingEnds.{flag-reach}
+use Rattle.posting.proofs.PostingFew.{gap-and, flag-bare}
+use Rattle.transaction.specs.Transaction.{opening, texts, mark, marks}
+use Rattle.transaction.proofs.TransactionEnds.{mark-reach}
 
 module _ (s : List ℕ) where
   abbrev N : ℕ
   N = length s
 
-  pub opening-fits : (at : ℕ) → at ≤ N → Fits s at (opening s at)
+  pub opening-fits : (at : ℕ) → at ≤ N → FitsFrom flagKind s at (opening s at)
   unfolding opening
   opening-fits at h =
       else-fits at _ _
@@ -51,12 +48,3 @@ module _ (s : List ℕ) where
   pub marks-fits : (at : ℕ) → at ≤ N → Fits s at (marks s at)
   unfolding marks
   marks-fits at h = many-fits N (mark s) (mark-reach s) mark-fits (suc N) at h
-
-  pub transaction-fits : (at : ℕ) → at ≤ N → Fits s at (transaction s at)
-  unfolding transaction
-  transaction-fits at h =
-      and-fits N at at (opening s at) _ (opening-reach s at h) (opening-fits at h) (λ a p₁ q₁.
-      and-fits N a a (maybe a (texts s a)) _ (optional-reach N a _ q₁ (texts-reach s a q₁)) (maybe-fits a _ (texts-fits a q₁)) (λ b p₂ q₂.
-      and-fits N b b (marks s b) _ (marks-reach s b q₂) (marks-fits b q₂) (λ c p₃ q₃.
-      and-fits N c c (must c (lineEnd s c)) _ (must-reach N c c _ (line-reach s c q₃)) (must-fits c c _ (line-fits s c q₃)) (λ d p₄ q₄.
-      and-fits N d d (metadata s d) _ (metadata-reach s d q₄) (metadata-fits s d q₄) (λ e p₅ q₅. body-fits s e q₅)))))

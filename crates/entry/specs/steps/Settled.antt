@@ -20,15 +20,20 @@ unfoldable pub ownRow : ℕ → ℕ → ℕ → ℕ → ℕ → Row
 ownRow base k d n q = rowOf k base (base + n) 0 d q (pos 0)
 
 -- where the details were written and o is held: the entry's answer, and the table with its own row at the front
-unfoldable pub settledEntry : ℕ → Out → Entry
-settledEntry n o = cond (eqb (o .bad) 0) (Entry.Read n (o .rows + 1)) (Entry.Refused (o .bad - 1) (o .place))
+unfoldable pub settledEntry : ℕ → ℕ → Out → Entry
+settledEntry k n o = cond (eqb (o .bad) 0) (Entry.Read k n (o .rows + 1)) (Entry.Refused (o .bad - 1) (o .place))
 
 unfoldable pub settledTable : ℕ → ℕ → ℕ → ℕ → Out → List ℕ → List ℕ
 settledTable base k d n o t = cond (eqb (o .bad) 0) (pour (ownRow base k d n (o .rows) ∷ []) t) t
 
+-- the kind of an entry with these rows
+unfoldable pub kindOf : List Row → ℕ
+kindOf [] = 0
+kindOf (r ∷ rs) = r .kind
+
 -- the code's enum of what an entry reads
 unfoldable pub entryAnswer : Reads → Entry
-entryAnswer (got n rs) = Entry.Read n (length rs)
+entryAnswer (got n rs) = Entry.Read (kindOf rs) n (length rs)
 entryAnswer (refuse k p) = Entry.Refused k p
 
 -- the rows that are written for a form

@@ -6,8 +6,8 @@ use Rattle.ledger.proofs.scan.part.Tie as tie
 clean-prefix-requires : tie.Need-clean-prefix-requires
 clean-prefix-requires c κs = search (needs, part-laws)
 
-add-t7 : tie.Need-add-t7
-add-t7 c = search (needs, part-laws)
+add-t8 : tie.Need-add-t8
+add-t8 c = search (needs, part-laws)
 
 returns : tie.Need-returns
 returns c = search (needs, part-laws)
@@ -24,4 +24,4 @@ returns-2 c = search (needs, part-laws)
 pub part-spec : {M : Type 1} → statement M
 part-spec =
     tie.close
-    (tie.spec clean-prefix-requires add-t7 returns entries-requires same-length returns-2)
+    (tie.spec clean-prefix-requires add-t8 returns entries-requires same-length returns-2)

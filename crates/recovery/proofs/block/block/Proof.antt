@@ -9,8 +9,8 @@ part-requires c κs = search (needs, block-laws)
 enum-known-m : tie.Need-enum-known-m
 enum-known-m c = search (needs, block-laws)
 
-add-t15 : tie.Need-add-t15
-add-t15 c = search (needs, block-laws)
+add-t16 : tie.Need-add-t16
+add-t16 c = search (needs, block-laws)
 
 put-front-requires : tie.Need-put-front-requires
 put-front-requires c κs = search (needs, block-laws)
@@ -36,7 +36,7 @@ block-spec =
     (tie.spec
     part-requires
     enum-known-m
-    add-t15
+    add-t16
     put-front-requires
     enum-known-m-2
     same-length

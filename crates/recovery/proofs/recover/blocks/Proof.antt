@@ -7,10 +7,10 @@ use Rattle.recovery.proofs.recover.blocks.Statement.{statement}
 use Rattle.recovery.proofs.recover.blocks.Tie as tie
 
 abbrev Inv-loop : tie.InvT-loop
-Inv-loop s table₀ at₀ n₀ table at n = Cut s table₀ at n table × (length table ≡ length table₀)
+Inv-loop s table₀ profile at₀ n₀ table at n = Cut profile s table₀ at n table × (length table ≡ length table₀)
 
 abbrev μ-loop : tie.MeasureT-loop
-μ-loop s table₀ at₀ n₀ table at n = length s - at
+μ-loop s table₀ profile at₀ n₀ table at n = length s - at
 
 loop-holds : tie.Need-loop-holds Inv-loop μ-loop
 loop-holds c = search (needs, blocks-laws)

@@ -39,6 +39,18 @@ lumbrisse-tag-in-force-requires c κs = search needs
 of-reply-requires-4 : tie.Need-of-reply-requires-4
 of-reply-requires-4 c κs = search needs
 
+lumbrisse-read-strict-requires : tie.Need-lumbrisse-read-strict-requires
+lumbrisse-read-strict-requires c κs = search needs
+
+of-reply-requires-5 : tie.Need-of-reply-requires-5
+of-reply-requires-5 c κs = search needs
+
+lumbrisse-recover-strict-requires : tie.Need-lumbrisse-recover-strict-requires
+lumbrisse-recover-strict-requires c κs = search needs
+
+of-reply-requires-6 : tie.Need-of-reply-requires-6
+of-reply-requires-6 c κs = search needs
+
 lumbrisse-expression-exact-requires : tie.Need-lumbrisse-expression-exact-requires
 lumbrisse-expression-exact-requires c κs = search needs
 
@@ -63,8 +75,8 @@ edited-requires c κs = search needs
 lumbrisse-packet-write-requires : tie.Need-lumbrisse-packet-write-requires
 lumbrisse-packet-write-requires c κs = search needs
 
-of-reply-requires-5 : tie.Need-of-reply-requires-5
-of-reply-requires-5 c κs = search needs
+of-reply-requires-7 : tie.Need-of-reply-requires-7
+of-reply-requires-7 c κs = search needs
 
 stepped-requires : tie.Need-stepped-requires
 stepped-requires c κs = search needs
@@ -99,8 +111,14 @@ same-length-4 c = search needs
 returns-6 : tie.Need-returns-6
 returns-6 c = search (needs, made-laws)
 
+same-length-5 : tie.Need-same-length-5
+same-length-5 c = search needs
+
 returns-7 : tie.Need-returns-7
 returns-7 c = search (needs, made-laws)
+
+same-length-6 : tie.Need-same-length-6
+same-length-6 c = search needs
 
 returns-8 : tie.Need-returns-8
 returns-8 c = search (needs, made-laws)
@@ -108,14 +126,8 @@ returns-8 c = search (needs, made-laws)
 returns-9 : tie.Need-returns-9
 returns-9 c = search (needs, made-laws)
 
-same-length-5 : tie.Need-same-length-5
-same-length-5 c = search needs
-
 returns-10 : tie.Need-returns-10
 returns-10 c = search (needs, made-laws)
-
-same-length-6 : tie.Need-same-length-6
-same-length-6 c = search needs
 
 returns-11 : tie.Need-returns-11
 returns-11 c = search (needs, made-laws)
@@ -123,14 +135,26 @@ returns-11 c = search (needs, made-laws)
 same-length-7 : tie.Need-same-length-7
 same-length-7 c = search needs
 
-same-length-8 : tie.Need-same-length-8
-same-length-8 c = search needs
-
 returns-12 : tie.Need-returns-12
 returns-12 c = search (needs, made-laws)
 
+same-length-8 : tie.Need-same-length-8
+same-length-8 c = search needs
+
 returns-13 : tie.Need-returns-13
 returns-13 c = search (needs, made-laws)
+
+same-length-9 : tie.Need-same-length-9
+same-length-9 c = search needs
+
+same-length-10 : tie.Need-same-length-10
+same-length-10 c = search needs
+
+returns-14 : tie.Need-returns-14
+returns-14 c = search (needs, made-laws)
+
+returns-15 : tie.Need-returns-15
+returns-15 c = search (needs, made-laws)
 
 pub made-spec : {M : Type 1} → statement M
 made-spec =
@@ -148,6 +172,10 @@ made-spec =
     of-part-requires
     lumbrisse-tag-in-force-requires
     of-reply-requires-4
+    lumbrisse-read-strict-requires
+    of-reply-requires-5
+    lumbrisse-recover-strict-requires
+    of-reply-requires-6
     lumbrisse-expression-exact-requires
     of-evaluated-requires-2
     lumbrisse-expression-stacked-requires
@@ -156,7 +184,7 @@ made-spec =
     of-evaluated-requires-4
     edited-requires
     lumbrisse-packet-write-requires
-    of-reply-requires-5
+    of-reply-requires-7
     stepped-requires
     same-length
     returns
@@ -168,14 +196,18 @@ made-spec =
     returns-5
     same-length-4
     returns-6
+    same-length-5
     returns-7
+    same-length-6
     returns-8
     returns-9
-    same-length-5
     returns-10
-    same-length-6
     returns-11
     same-length-7
-    same-length-8
     returns-12
-    returns-13)
+    same-length-8
+    returns-13
+    same-length-9
+    same-length-10
+    returns-14
+    returns-15)

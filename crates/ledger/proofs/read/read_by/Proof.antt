@@ -1,7 +1,7 @@
 use Rattle.ledger.proofs.ReadLaws.{read-laws}
 use borrow.Author.Needs.{needs}
-use Rattle.ledger.proofs.read.read.Statement.{statement}
-use Rattle.ledger.proofs.read.read.Tie as tie
+use Rattle.ledger.proofs.read.read_by.Statement.{statement}
+use Rattle.ledger.proofs.read.read_by.Tie as tie
 
 refusal-requires : tie.Need-refusal-requires
 refusal-requires c κs = search (needs, read-laws)
@@ -45,8 +45,8 @@ same-length c = search (needs, read-laws)
 returns-4 : tie.Need-returns-4
 returns-4 c = search (needs, read-laws)
 
-pub read-spec : {M : Type 1} → statement M
-read-spec =
+pub read-by-spec : {M : Type 1} → statement M
+read-by-spec =
     tie.close
     (tie.spec
     refusal-requires

@@ -1,7 +1,7 @@
 use Rattle.recovery.proofs.RecoverLaws.{recover-laws}
 use borrow.Author.Needs.{needs}
-use Rattle.recovery.proofs.recover.recover.Statement.{statement}
-use Rattle.recovery.proofs.recover.recover.Tie as tie
+use Rattle.recovery.proofs.recover.recover_by.Statement.{statement}
+use Rattle.recovery.proofs.recover.recover_by.Tie as tie
 
 returns : tie.Need-returns
 returns c = search (needs, recover-laws)
@@ -39,8 +39,8 @@ same-length c = search (needs, recover-laws)
 returns-3 : tie.Need-returns-3
 returns-3 c = search (needs, recover-laws)
 
-pub recover-spec : {M : Type 1} → statement M
-recover-spec =
+pub recover-by-spec : {M : Type 1} → statement M
+recover-by-spec =
     tie.close
     (tie.spec
     returns
