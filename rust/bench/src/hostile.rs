@@ -18,6 +18,12 @@ pub const ALL: &[Hostile] = &[
         back: b"",
     },
     Hostile {
+        name: "one endless line of blanks",
+        front: b"",
+        again: b" ",
+        back: b"\n",
+    },
+    Hostile {
         name: "open groups in costs",
         front: b"",
         again: b"2024-01-01 *\n A:B 1 X {((((((((((((((((((((((((((((((((\n",

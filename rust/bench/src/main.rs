@@ -3,14 +3,15 @@
 //! ```text
 //! bench --oracle DIR [--plugin FILE] LEDGER[=LIMIT]..     instructions and time on ledgers, beside the crate
 //! bench --growth [--plugin FILE]                          instructions on hostile inputs of 1, 2, 4 and 8 MB
-//! bench --once read|recover LEDGER N                      reads N times: the least time in seconds, and the answer
+//! bench --once READER LEDGER N                            reads N times: the least time in seconds, and the answer
 //! bench --edit LEDGER [--plugin FILE]                     instructions of an edit, beside recovering afresh
 //! bench --once edit LEDGER PLACE N                        edits the block at a byte N times, as `--once read` reads
 //! bench --once EVALUATOR TEXT N                           evaluates N times: the time of one, and the answer
 //! bench --stack                                           the stack that each evaluator takes
 //! ```
 //!
-//! EVALUATOR is expression, exact, stacked or stacked-exact: an engine in a form.
+//! READER is read, recover, read-strict or recover-strict, EVALUATOR expression, exact, stacked or stacked-exact: an
+//! engine in a form.
 //!
 //! DIR is the oracle's folder (or the variable ORACLE), with the program `both` of the differential run. Instructions are counted by
 //! `perf stat` where the machine permits it, else by valgrind's callgrind; with `--plugin`, by a counting plugin of qemu. LIMIT is the
@@ -47,7 +48,7 @@ use report::{Bench, Ledger};
 const USAGE: &str = "usage: bench --oracle DIR [--plugin FILE] LEDGER[=LIMIT]..
        bench --growth [--plugin FILE]
        bench --edit LEDGER [--plugin FILE]
-       bench --once read|recover LEDGER N
+       bench --once read|recover|read-strict|recover-strict LEDGER N
        bench --once edit LEDGER PLACE N
        bench --once expression|exact|stacked|stacked-exact TEXT N
        bench --stack";

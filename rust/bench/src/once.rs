@@ -16,6 +16,8 @@ pub fn once(call: &str, given: &str, count: &str) -> io::Result<()> {
         (_, Some(evaluator)) => evaluate(evaluator, given.as_bytes(), count),
         ("read", _) => read(lumbrisse::read, given, count),
         ("recover", _) => read(lumbrisse::recover, given, count),
+        ("read-strict", _) => read(lumbrisse::read_strict, given, count),
+        ("recover-strict", _) => read(lumbrisse::recover_strict, given, count),
         _ => Err(io::Error::other(format!("{call} is no call"))),
     }
 }

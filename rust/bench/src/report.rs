@@ -23,7 +23,7 @@ const GROWTH: f64 = 2.1;
 /// Recovering reading may take this part of the crate's instructions.
 const RECOVERING: f64 = 0.5;
 
-/// Times are the least of so many rounds, in which the three take turns, of so many readings each.
+/// Times are the least of so many rounds, in which crate, plain and recovering take turns, of so many readings each.
 const ROUNDS: usize = 5;
 const READINGS: &str = "5";
 
@@ -41,9 +41,26 @@ enum Reader {
     Crate,
     Plain,
     Recovering,
+    Strict,
+    RecoveringStrict,
 }
 
-const READERS: [Reader; 3] = [Reader::Crate, Reader::Plain, Reader::Recovering];
+/// Those whose instructions are counted; the first three are timed as well.
+const READERS: [Reader; 5] = [
+    Reader::Crate,
+    Reader::Plain,
+    Reader::Recovering,
+    Reader::Strict,
+    Reader::RecoveringStrict,
+];
+
+/// Those that hostile inputs are given to, by name.
+const NAMED: [(Reader, &str); 4] = [
+    (Reader::Plain, "plain"),
+    (Reader::Recovering, "recovering"),
+    (Reader::Strict, "strict"),
+    (Reader::RecoveringStrict, "recovering strict"),
+];
 
 /// What is measured with.
 pub struct Bench {
@@ -74,8 +91,11 @@ impl Bench {
             "Instructions for a byte, counted by {}.\n",
             self.counter.name()
         )?;
-        writeln!(io::stdout(), "| ledger | bytes | crate | plain | recovering | plain / crate | recovering / crate | time plain / crate | time recovering / crate |")?;
-        writeln!(io::stdout(), "|---|--:|--:|--:|--:|--:|--:|--:|--:|")?;
+        writeln!(io::stdout(), "| ledger | bytes | crate | plain | recovering | strict | recovering strict | plain / crate | recovering / crate | time plain / crate | time recovering / crate |")?;
+        writeln!(
+            io::stdout(),
+            "|---|--:|--:|--:|--:|--:|--:|--:|--:|--:|--:|"
+        )?;
         for ledger in ledgers {
             self.ledger(ledger)?;
         }
@@ -95,8 +115,9 @@ impl Bench {
         )?;
         writeln!(io::stdout(), "|---|---|--:|--:|--:|--:|---|")?;
         for input in hostile::ALL {
-            self.grown(input, Reader::Plain, "plain")?;
-            self.grown(input, Reader::Recovering, "recovering")?;
+            for (reader, name) in NAMED {
+                self.grown(input, reader, name)?;
+            }
         }
         self.said()
     }
@@ -116,17 +137,18 @@ impl Bench {
 
     /// The program that reads so, with its words but for how often.
     fn words<'a>(&'a self, reader: Reader, file: &'a Path) -> (&'a OsStr, Vec<&'a OsStr>) {
-        let program = match reader {
-            Reader::Crate => &self.both,
-            _ => &self.this,
+        let call = match reader {
+            Reader::Crate => {
+                let words = vec![OsStr::new("--time"), file.as_os_str()];
+                return (self.both.as_os_str(), words);
+            }
+            Reader::Plain => "read",
+            Reader::Recovering => "recover",
+            Reader::Strict => "read-strict",
+            Reader::RecoveringStrict => "recover-strict",
         };
-        let mut words = match reader {
-            Reader::Crate => vec![OsStr::new("--time")],
-            Reader::Plain => vec![OsStr::new("--once"), OsStr::new("read")],
-            Reader::Recovering => vec![OsStr::new("--once"), OsStr::new("recover")],
-        };
-        words.push(file.as_os_str());
-        (program.as_os_str(), words)
+        let words = vec![OsStr::new("--once"), OsStr::new(call), file.as_os_str()];
+        (self.this.as_os_str(), words)
     }
 
     /// The instructions of one reading.
@@ -166,7 +188,7 @@ impl Bench {
 
     fn row(&mut self, name: &str, file: &Path, limit: Option<f64>) -> io::Result<()> {
         let bytes = std::fs::metadata(file)?.len() as f64;
-        let mut per_byte = [0.0; 3];
+        let mut per_byte = [0.0; 5];
         for (place, reader) in per_byte.iter_mut().zip(READERS) {
             *place = self.instructions(reader, file)? / bytes;
         }
@@ -176,9 +198,9 @@ impl Bench {
                 *least = least.min(self.seconds(reader, file)?);
             }
         }
-        let [old, plain, recovering] = per_byte;
+        let [old, plain, recovering, strict, recovering_strict] = per_byte;
         let [old_time, plain_time, recovering_time] = times;
-        writeln!(io::stdout(), "| {name} | {bytes} | {old:.2} | {plain:.2} | {recovering:.2} | {:.2} | {:.2} | {:.2} | {:.2} |",
+        writeln!(io::stdout(), "| {name} | {bytes} | {old:.2} | {plain:.2} | {recovering:.2} | {strict:.2} | {recovering_strict:.2} | {:.2} | {:.2} | {:.2} | {:.2} |",
             plain / old,
             recovering / old,
             plain_time / old_time,

@@ -70,6 +70,30 @@ pub fn read(ledger: &[u8], table: &mut [u8]) -> Result<usize, Refusal> {
     counted(ffi::read(ledger, table))
 }
 
+/// Strict reading: plain reading, and no line or flag that it passes over in silence.
+///
+/// Refused as [`read`] is. What that accepts is then refused with 16, at its start, for a blank entry that starts with
+/// a digit, with blanks that neither a comment nor the line's end follows, or with `option`; and with 17, at the flag,
+/// for a transaction's flag other than `*` and `!`: whichever stands first. 9 comes last. What is accepted has the rows
+/// of [`read`].
+///
+/// ```
+/// let mut table = [7; 96];
+/// // Without its second digit the month makes this line a comment to plain reading.
+/// let lost = b"; March\n2024-3-31 * \"Flat 2\"\n";
+/// assert_eq!(lumbrisse::read(lost, &mut table), Ok(2));
+/// let refusal = lumbrisse::read_strict(lost, &mut table).unwrap_err();
+/// assert_eq!((refusal.number, refusal.place), (16, 8));
+///
+/// let flagged = b"2024-03-31 P \"Flat 2\"\n";
+/// let refusal = lumbrisse::read_strict(flagged, &mut table).unwrap_err();
+/// assert_eq!((refusal.number, refusal.place), (17, 11));
+/// assert_eq!(lumbrisse::read_strict(b"2024-03-31 ! \"Flat 2\"\n", &mut table), Ok(3));
+/// ```
+pub fn read_strict(ledger: &[u8], table: &mut [u8]) -> Result<usize, Refusal> {
+    counted(ffi::read_strict(ledger, table))
+}
+
 /// Recovering reading: goes on behind damage.
 ///
 /// The ledger is cut before each line that starts with a digit or small letter. A block that plain reading accepts gives its rows,
@@ -88,6 +112,25 @@ pub fn read(ledger: &[u8], table: &mut [u8]) -> Result<usize, Refusal> {
 /// ```
 pub fn recover(ledger: &[u8], table: &mut [u8]) -> Result<usize, Refusal> {
     counted(ffi::recover(ledger, table))
+}
+
+/// Strict recovering reading: as [`recover`], with each block read by [`read_strict`].
+///
+/// A block that is refused with 16 or 17 gives one row of kind [`Kind::Refused`](crate::Kind::Refused) like any other.
+///
+/// ```
+/// use lumbrisse::Rows;
+///
+/// let ledger = b"2024-3-31 * \"March\"\n2024-04-30 * \"April\"\n";
+/// let mut table = [0; 128];
+/// let count = lumbrisse::recover_strict(ledger, &mut table)?;
+/// let refused: Vec<_> = Rows::new(&table).take(count).filter_map(|row| row.refusal()).collect();
+/// assert_eq!((count, refused.len()), (4, 1));
+/// assert_eq!((refused[0].number, refused[0].place), (16, 0));
+/// # Ok::<(), lumbrisse::Refusal>(())
+/// ```
+pub fn recover_strict(ledger: &[u8], table: &mut [u8]) -> Result<usize, Refusal> {
+    counted(ffi::recover_strict(ledger, table))
 }
 
 /// The expression at the start of a text: its value, and where it stops.

@@ -1,4 +1,4 @@
-//! The archive's twelve functions, and the only unsafe code: each is called with pointer and length of a live slice.
+//! The archive's fourteen functions, and the only unsafe code: each is called with pointer and length of a live slice.
 #![allow(unsafe_code)]
 
 /// The answer of a call that reads or writes: number 0 is accepted.
@@ -52,6 +52,18 @@ mod archive {
             table_length: usize,
         ) -> Reply;
         pub fn lumbrisse_recover(
+            ledger: *const u8,
+            ledger_length: usize,
+            table: *mut u8,
+            table_length: usize,
+        ) -> Reply;
+        pub fn lumbrisse_read_strict(
+            ledger: *const u8,
+            ledger_length: usize,
+            table: *mut u8,
+            table_length: usize,
+        ) -> Reply;
+        pub fn lumbrisse_recover_strict(
             ledger: *const u8,
             ledger_length: usize,
             table: *mut u8,
@@ -118,28 +130,34 @@ mod archive {
 }
 
 pub fn read(ledger: &[u8], table: &mut [u8]) -> Reply {
-    // SAFETY: both slices live through the call and do not overlap, `table` being borrowed mutably. The function is proved for
-    // any bytes and lengths: it reads within `ledger`, writes within `table`, and keeps neither pointer.
-    unsafe {
-        archive::lumbrisse_read(
-            ledger.as_ptr(),
-            ledger.len(),
-            table.as_mut_ptr(),
-            table.len(),
-        )
-    }
+    write(archive::lumbrisse_read, ledger, table)
+}
+
+pub fn read_strict(ledger: &[u8], table: &mut [u8]) -> Reply {
+    write(archive::lumbrisse_read_strict, ledger, table)
 }
 
 pub fn recover(ledger: &[u8], table: &mut [u8]) -> Reply {
-    // SAFETY: as for `read`.
-    unsafe {
-        archive::lumbrisse_recover(
-            ledger.as_ptr(),
-            ledger.len(),
-            table.as_mut_ptr(),
-            table.len(),
-        )
-    }
+    write(archive::lumbrisse_recover, ledger, table)
+}
+
+pub fn recover_strict(ledger: &[u8], table: &mut [u8]) -> Reply {
+    write(archive::lumbrisse_recover_strict, ledger, table)
+}
+
+pub fn content(content: &[u8], buffer: &mut [u8]) -> Reply {
+    write(archive::lumbrisse_content, content, buffer)
+}
+
+/// Calls one of the five functions that take a text and write to a buffer.
+fn write(
+    function: unsafe extern "C" fn(*const u8, usize, *mut u8, usize) -> Reply,
+    text: &[u8],
+    buffer: &mut [u8],
+) -> Reply {
+    // SAFETY: both slices live through the call and do not overlap, `buffer` being borrowed mutably. Each of the five
+    // is proved for any bytes and lengths: it reads within `text`, writes within `buffer`, and keeps neither pointer.
+    unsafe { function(text.as_ptr(), text.len(), buffer.as_mut_ptr(), buffer.len()) }
 }
 
 pub fn expression(text: &[u8]) -> Evaluated {
@@ -168,18 +186,6 @@ fn evaluate(
     unsafe { function(text.as_ptr(), text.len()) }
 }
 
-pub fn content(content: &[u8], buffer: &mut [u8]) -> Reply {
-    // SAFETY: as for `read`, with `buffer` in the table's place.
-    unsafe {
-        archive::lumbrisse_content(
-            content.as_ptr(),
-            content.len(),
-            buffer.as_mut_ptr(),
-            buffer.len(),
-        )
-    }
-}
-
 pub fn tag_in_force(ledger: &[u8], table: &[u8], k: usize, tag: &[u8]) -> Reply {
     // SAFETY: the slices live through the call and are only read, within their lengths, whatever `k` is. No pointer is kept.
     unsafe {
@@ -201,7 +207,7 @@ pub fn span(ledger: &[u8], start: usize, end: usize) -> Part {
 }
 
 pub fn packet_write(ledger: &[u8], table: &[u8], k: usize, packet: &mut [u8]) -> Reply {
-    // SAFETY: as for `read`, with `packet` in the table's place; `table` is only read, within its length, whatever its
+    // SAFETY: as in `write`, with `packet` as the buffer; `table` is only read, within its length, whatever its
     // bytes and `k` are.
     unsafe {
         archive::lumbrisse_packet_write(
@@ -242,8 +248,8 @@ pub fn edit(
     new: &[u8],
     table: &mut [u8],
 ) -> Reply {
-    // SAFETY: as for `read`; `old`, `rows` and `new` are only read, within their lengths, whatever their bytes, `k`,
-    // `start` and `end` are.
+    // SAFETY: as in `write`, with `table` as the buffer; `old`, `rows` and `new` are only read, within their lengths,
+    // whatever their bytes, `k`, `start` and `end` are.
     unsafe {
         archive::lumbrisse_edit(
             old.as_ptr(),

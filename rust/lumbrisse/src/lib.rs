@@ -7,7 +7,9 @@
 //! | call | gives |
 //! |---|---|
 //! | [`read`] | the rows of a ledger, or the first refusal in it |
+//! | [`read_strict`] | the same, where nothing passes for a comment that starts like an entry or a posting |
 //! | [`recover`] | the rows of every block that reads, and a row of kind [`Kind::Refused`] for each block that does not |
+//! | [`recover_strict`] | the same with each block read by [`read_strict`] |
 //! | [`expression`] | the value of one expression, with products and quotients rounded, and where it stops |
 //! | [`expression_exact`] | the same with nothing rounded: a product or quotient that is too fine is refused |
 //! | [`expression_stacked`] | what [`expression`] gives, on a small stack at any depth of groups |
@@ -19,11 +21,12 @@
 //! | [`packet_next`] | one row of a packet, with its text |
 //! | [`edit`] | the rows of a ledger in which one block was replaced, with that block alone read anew |
 //!
-//! These lend buffers and allocate nothing. [`read_to_vec`], [`recover_to_vec`], [`packet_to_vec`] and [`edit_to_vec`]
-//! make a table or packet that is large enough. [`Rows`] goes over a table row by row, [`Packets`] over a packet.
-//! [`Reading`] keeps a ledger and its rows together while blocks of it are replaced; [`block_at`] says where one is.
+//! These lend buffers and allocate nothing. [`read_to_vec`], [`read_strict_to_vec`], [`recover_to_vec`],
+//! [`recover_strict_to_vec`], [`packet_to_vec`] and [`edit_to_vec`] make a table or packet that is large enough.
+//! [`Rows`] goes over a table row by row, [`Packets`] over a packet. [`Reading`] keeps a ledger and its rows together
+//! while blocks of it are replaced; [`block_at`] says where one is.
 //!
-//! Without its default feature `std` the crate is `no_std`, for a display: all but the four calls that allocate,
+//! Without its default feature `std` the crate is `no_std`, for a display: all but the six calls that allocate,
 //! [`Reading`], and `std::error::Error` for a refusal, is there.
 //!
 //! ```
@@ -70,14 +73,17 @@ mod table;
 
 pub use call::{
     content, expression, expression_exact, expression_stacked, expression_stacked_exact, read,
-    recover, span_text, tag_in_force, Evaluated, SIZE_LIMIT,
+    read_strict, recover, recover_strict, span_text, tag_in_force, Evaluated, SIZE_LIMIT,
 };
 pub use date::Date;
 pub use edit::{block_at, edit, Edit};
 pub use kind::Kind;
 pub use millionths::Millionths;
 #[cfg(feature = "std")]
-pub use owned::{edit_to_vec, packet_to_vec, read_to_vec, recover_to_vec};
+pub use owned::{
+    edit_to_vec, packet_to_vec, read_strict_to_vec, read_to_vec, recover_strict_to_vec,
+    recover_to_vec,
+};
 pub use packet::{packet, packet_next, Handed, PacketRow, Packets, TEXT_LIMIT};
 #[cfg(feature = "std")]
 pub use reading::Reading;

@@ -2,7 +2,9 @@
 
 use std::vec::Vec;
 
-use crate::{edit, packet, read, recover, Edit, Refusal, ROW_BYTES, SIZE_LIMIT};
+use crate::{
+    edit, packet, read, read_strict, recover, recover_strict, Edit, Refusal, ROW_BYTES, SIZE_LIMIT,
+};
 
 /// How many bytes of a ledger a first table has a row for; ledgers of readings need fewer rows.
 const BYTES_TO_A_ROW: usize = 8;
@@ -20,6 +22,16 @@ pub fn read_to_vec(ledger: &[u8]) -> Result<Vec<u8>, Refusal> {
     table(ledger, read)
 }
 
+/// Strict reading into a table of its own, as [`read_to_vec`].
+///
+/// ```
+/// assert_eq!(lumbrisse::read_strict_to_vec(b"; one\n"), lumbrisse::read_to_vec(b"; one\n"));
+/// assert_eq!(lumbrisse::read_strict_to_vec(b"; one\n1\n").unwrap_err().number, 16);
+/// ```
+pub fn read_strict_to_vec(ledger: &[u8]) -> Result<Vec<u8>, Refusal> {
+    table(ledger, read_strict)
+}
+
 /// Recovering reading into a table of its own, as [`read_to_vec`].
 ///
 /// ```
@@ -29,6 +41,17 @@ pub fn read_to_vec(ledger: &[u8]) -> Result<Vec<u8>, Refusal> {
 /// ```
 pub fn recover_to_vec(ledger: &[u8]) -> Result<Vec<u8>, Refusal> {
     table(ledger, recover)
+}
+
+/// Strict recovering reading into a table of its own, as [`read_to_vec`].
+///
+/// ```
+/// let table = lumbrisse::recover_strict_to_vec(b"1\n; kept with what stands above it\n")?;
+/// assert_eq!(table.len(), lumbrisse::ROW_BYTES);
+/// # Ok::<(), lumbrisse::Refusal>(())
+/// ```
+pub fn recover_strict_to_vec(ledger: &[u8]) -> Result<Vec<u8>, Refusal> {
+    table(ledger, recover_strict)
 }
 
 /// The packet of the first `k` rows of a table, in bytes of its own.

@@ -12,7 +12,7 @@ use core::fmt;
 /// ```
 #[derive(Clone, Copy, Debug, PartialEq, Eq, Hash)]
 pub struct Refusal {
-    /// The number: 1 to 11, or 18 to 20.
+    /// The number: 1 to 11, or 16 to 20.
     pub number: usize,
     /// The place, in bytes from the start of the lent text or packet.
     pub place: usize,
@@ -30,6 +30,26 @@ impl Refusal {
     /// assert_eq!(refusal, Refusal { number: Refusal::TOO_SHORT, place: 0, count: 4 });
     /// ```
     pub const TOO_SHORT: usize = 9;
+
+    /// The number of a line that strict reading does not let pass for a comment.
+    ///
+    /// ```
+    /// use lumbrisse::Refusal;
+    ///
+    /// let refusal = lumbrisse::read_strict(b"2024-13-31 close A:B\n", &mut [0; 32]).unwrap_err();
+    /// assert_eq!(refusal, Refusal { number: Refusal::LOST_LINE, place: 0, count: 0 });
+    /// ```
+    pub const LOST_LINE: usize = 16;
+
+    /// The number of a transaction's flag that strict reading does not let pass.
+    ///
+    /// ```
+    /// use lumbrisse::Refusal;
+    ///
+    /// let refusal = lumbrisse::read_strict(b"2024-12-31 P\n", &mut [0; 64]).unwrap_err();
+    /// assert_eq!(refusal, Refusal { number: Refusal::FLAG, place: 11, count: 0 });
+    /// ```
+    pub const FLAG: usize = 17;
 
     /// What the number means, in plain words.
     ///
@@ -50,6 +70,8 @@ impl Refusal {
             9 => "the table or buffer is too short",
             10 => "a row count, a row's span, a block, its new bytes or the string content is not valid",
             11 => "no expression stands at the start",
+            16 => "this line is lost: it starts like an entry or a posting, and no entry reads it",
+            17 => "the flag of this transaction is neither * nor !",
             18 => "a text is longer than 65,535 bytes, the most that a field of a packet holds",
             19 => "this field is cut short, or the packet ends where a text is due",
             20 => "this field is not the one that is due: its tag, its length or its order is wrong",

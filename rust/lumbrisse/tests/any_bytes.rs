@@ -5,7 +5,8 @@ mod dice;
 use dice::Dice;
 use lumbrisse::{
     content, expression, expression_exact, expression_stacked, expression_stacked_exact, read,
-    recover, span_text, tag_in_force, Evaluated, Refusal, Rows, ROW_BYTES,
+    read_strict, recover, recover_strict, span_text, tag_in_force, Evaluated, Refusal, Rows,
+    ROW_BYTES,
 };
 
 /// What ledgers are made of, and bytes that they are not.
@@ -62,7 +63,7 @@ fn text(dice: &mut Dice) -> Vec<u8> {
 }
 
 fn sound(refusal: Refusal, text: &[u8]) {
-    assert!((1..=11).contains(&refusal.number));
+    assert!(matches!(refusal.number, 1..=11 | 16 | 17));
     assert!(refusal.place <= text.len());
     assert!(refusal.count == 0 || refusal.number == Refusal::TOO_SHORT);
 }
@@ -73,7 +74,7 @@ fn any_bytes_get_rows_or_a_refusal() {
     for _ in 0..20_000 {
         let text = text(&mut dice);
         let lent: Vec<u8> = (0..dice.below(40 * ROW_BYTES)).map(|n| n as u8).collect();
-        for call in [read, recover] {
+        for call in [read, recover, read_strict, recover_strict] {
             let mut table = lent.clone();
             match call(&text, &mut table) {
                 Err(refusal) => {

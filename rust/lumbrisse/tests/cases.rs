@@ -9,7 +9,8 @@ use std::path::PathBuf;
 
 use lumbrisse::{
     content, edit, expression, expression_exact, expression_stacked, expression_stacked_exact,
-    packet, packet_next, read, recover, span_text, tag_in_force, Edit, Evaluated, Handed, Refusal,
+    packet, packet_next, read, read_strict, recover, recover_strict, span_text, tag_in_force, Edit,
+    Evaluated, Handed, Refusal,
 };
 
 /// Where another case file is named.
@@ -17,10 +18,10 @@ const NAMED: &str = "LUMBRISSE_CASES";
 
 /// The repository's own file, and how many cases it has: the model's, then those that a differential run has written.
 const OWN: &str = concat!(env!("CARGO_MANIFEST_DIR"), "/../../crates/replay/stdin");
-const OWN_CASES: usize = 1200 + 287;
+const OWN_CASES: usize = 1400 + 287;
 
 /// The numbers of the calls that this test makes.
-const CALLS: [usize; 12] = [1, 2, 3, 4, 5, 6, 9, 12, 13, 14, 15, 16];
+const CALLS: [usize; 14] = [1, 2, 3, 4, 5, 6, 7, 8, 9, 12, 13, 14, 15, 16];
 
 /// The bytes of a case that are left.
 struct Left<'a>(&'a [u8]);
@@ -148,6 +149,8 @@ fn called(case: &Case, buffer: &mut [u8]) -> Answer {
             answer(start, text.len(), 0)
         }
         6 => counted(tag_in_force(case.first, buffer, a, case.second).map(usize::from)),
+        7 => counted(read_strict(case.first, buffer)),
+        8 => counted(recover_strict(case.first, buffer)),
         9 => evaluated(expression_exact(case.first)),
         12 => evaluated(expression_stacked(case.first)),
         13 => evaluated(expression_stacked_exact(case.first)),

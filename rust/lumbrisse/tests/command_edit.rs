@@ -84,6 +84,17 @@ fn what_would_be_said_is_said_and_nothing_written() {
 }
 
 #[test]
+fn postings_that_the_new_text_swallows_are_named() {
+    let new = b"2024-03-31 * \"Flat 2, corrected by hand\n  Meters:Flat-2  63.8 KWH\"\n";
+    let Ran { status, err, .. } = run_on(new, &edit(DAMAGED, LINES, "-", &[]));
+    assert_eq!(status, 0);
+    let said =
+        "57: this line starts like a posting, but is part of the string that starts in line 56: \
+        a quote may have been left open there";
+    assert!(err.ends_with(&format!("{DAMAGED}:{said}\n")), "{err}");
+}
+
+#[test]
 fn a_new_file_is_what_recovering_says_of_it() {
     let folder = Folder::new("output");
     let right = SAMPLE.replace("by hand\n", "by hand\"\n");
@@ -220,9 +231,9 @@ fn first_and_last_blocks_carriage_returns_and_nothing_at_all() {
         let (new, path) = (folder.write("new", new.as_bytes()), folder.word(&name));
         let words = edit("-", lines, &new, &["--output", &path]);
         let Ran { status, out, err } = run_on(old.as_bytes(), &words);
-        assert_eq!(err, format!("{path}: written\n"));
         assert_eq!(folder.read(&name), edited.as_bytes());
         let recovered = run(&["recover", &path]);
+        assert_eq!(err, format!("{path}: written\n{}", recovered.err));
         assert_eq!((status, out), (recovered.status, recovered.out));
     }
 }

@@ -4,10 +4,14 @@
 mod answers;
 mod dice;
 mod made;
+#[path = "made/edit.rs"]
+mod made_edit;
+mod met;
 #[path = "model/edit.rs"]
 mod model;
+#[path = "model/rows.rs"]
+mod rows;
 
-use std::collections::BTreeMap;
 use std::ops::Range;
 
 use answers::{need, refusal, MARK};
@@ -16,6 +20,7 @@ use lumbrisse::{
     block_at, edit, edit_to_vec, recover_to_vec, Edit, Kind, Reading, Refusal, Row, Rows,
     ROW_BYTES, SIZE_LIMIT,
 };
+use met::Met;
 
 const DAMAGED: &[u8] = include_bytes!("../../../examples/building.beancount");
 
@@ -35,30 +40,6 @@ fn change(block: Range<usize>, new: &[u8]) -> Edit<'_> {
 fn shown(ledger: &[u8], given: Edit) -> String {
     let [ledger, new] = [ledger, given.new].map(String::from_utf8_lossy);
     format!("{}..{} of {ledger:?} to {new:?}", given.start, given.end)
-}
-
-/// How often each thing was met.
-#[derive(Default)]
-struct Met(BTreeMap<&'static str, usize>);
-
-impl Met {
-    fn count(&mut self, what: &'static str, met: bool) {
-        *self.0.entry(what).or_insert(0) += usize::from(met);
-    }
-
-    /// Sees to it that something was met at least once in so many times.
-    fn often(&self, what: &str, times: usize, once_in: usize) {
-        let count = self.0[what];
-        assert!(count * once_in >= times, "{what}: {count} of {times}");
-    }
-
-    /// The same of everything.
-    fn all_often(&self, times: usize, once_in: usize) {
-        println!("{times} edits: {:?}", self.0);
-        for what in self.0.keys() {
-            self.often(what, times, once_in);
-        }
-    }
 }
 
 /// Makes an edit of a reading: it is as the model judges it, and a refused one changes nothing.
@@ -91,7 +72,7 @@ fn replace(reading: &mut Reading, block: Range<usize>, new: &[u8], met: &mut Met
     met.count("the last block", last);
     met.count("a block between", block.start != 0 && !last);
     met.count("a block removed", new.is_empty() && !block.is_empty());
-    met.count("several for one", model::blocks(new).len() > 1);
+    met.count("several for one", rows::blocks(new).len() > 1);
     met.count("a ledger without bytes", ledger.is_empty());
     met.count("no last line feed", last && !new.ends_with(b"\n"));
     met.count("with CR LF", new.windows(2).any(|pair| pair == b"\r\n"));
@@ -111,7 +92,7 @@ fn any_sequence_of_edits_ends_with_the_rows_of_reading_afresh() {
     for _ in 0..SEQUENCES {
         let mut reading = Reading::recover(made::ledger(&mut dice)).unwrap();
         for _ in 0..=dice.below(EDITS) {
-            let (block, new) = made::edit(&mut dice, reading.ledger());
+            let (block, new) = made_edit::edit(&mut dice, reading.ledger());
             replace(&mut reading, block, &new, &mut met);
             edits += 1;
         }
@@ -175,7 +156,7 @@ fn any_rows_are_kept_and_moved_as_the_model_does() {
     let rounds = 20_000;
     for _ in 0..rounds {
         let ledger = made::ledger(&mut dice);
-        let (block, new) = made::edit(&mut dice, &ledger);
+        let (block, new) = made_edit::edit(&mut dice, &ledger);
         let rows = some_rows(&mut dice, &ledger, &block);
         let count = Rows::new(&rows).len();
         let k = some_count(&mut dice, count);
@@ -218,7 +199,7 @@ const LEDGER: &[u8] = b"; a\n2024-01-31 *\n  A:B\n\npushtag #x";
 #[test]
 fn a_block_is_one_from_boundary_to_boundary() {
     let blocks = [0..4, 4..24, 24..34];
-    assert_eq!(model::blocks(LEDGER), blocks);
+    assert_eq!(rows::blocks(LEDGER), blocks);
     let rows = recover_to_vec(LEDGER).unwrap();
     let count = Rows::new(&rows).len();
     for start in 0..LEDGER.len() + 3 {
@@ -240,7 +221,7 @@ fn a_block_is_one_from_boundary_to_boundary() {
     // Neither a capital nor a blank starts a block, and a line feed alone ends a line.
     for whole in [&b"a\nB\n"[..], b"a\n b\n", b"a\r2\n", b"a\n\n", b"2"] {
         assert_eq!(block_at(whole, 0), Some(0..whole.len()));
-        assert_eq!(model::blocks(whole).len(), 1);
+        assert_eq!(rows::blocks(whole).len(), 1);
     }
     assert_eq!(block_at(b"", 1), None);
     assert_eq!(block_at(LEDGER, usize::MAX), None);

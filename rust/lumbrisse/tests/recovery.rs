@@ -1,6 +1,8 @@
 //! Recovering reading on the real archive: behind any damage the tail has plain reading's rows, moved.
 
-use lumbrisse::{read_to_vec, recover_to_vec, Kind, Row, Rows};
+use lumbrisse::{
+    read_strict_to_vec, read_to_vec, recover_strict_to_vec, recover_to_vec, Kind, Row, Rows,
+};
 
 const CLEAN: &[u8] = include_bytes!("../../../examples/clean.beancount");
 const DAMAGED: &[u8] = include_bytes!("../../../examples/building.beancount");
@@ -44,14 +46,17 @@ fn a_tail_keeps_its_rows_behind_any_bytes() {
     let plain = read_to_vec(tail()).unwrap();
     for front in damage {
         let ledger = [front, tail()].concat();
-        let table = recover_to_vec(&ledger).unwrap();
         let bytes = u32::try_from(front.len()).unwrap();
         let lines = u32::try_from(front.iter().filter(|byte| **byte == b'\n').count()).unwrap();
         let expected: Vec<Row> = Rows::new(&plain)
             .map(|row| moved(row, bytes, lines))
             .collect();
-        let found: Vec<Row> = Rows::new(&table).filter(|row| row.start >= bytes).collect();
-        assert_eq!(found, expected, "behind {front:?}");
+        // Strict reading accepts the tail too, so its strict form keeps it as well.
+        for recovered in [recover_to_vec, recover_strict_to_vec] {
+            let table = recovered(&ledger).unwrap();
+            let found: Vec<Row> = Rows::new(&table).filter(|row| row.start >= bytes).collect();
+            assert_eq!(found, expected, "behind {front:?}");
+        }
     }
 }
 
@@ -93,5 +98,9 @@ fn the_sample_loses_one_block_and_nothing_else() {
 
 #[test]
 fn a_ledger_that_is_whole_recovers_as_it_reads() {
-    assert_eq!(recover_to_vec(CLEAN), read_to_vec(CLEAN));
+    let plain = read_to_vec(CLEAN);
+    assert!(plain.is_ok());
+    for call in [recover_to_vec, read_strict_to_vec, recover_strict_to_vec] {
+        assert_eq!(call(CLEAN), plain);
+    }
 }

@@ -26,10 +26,10 @@ pub struct Job {
 /// What a command does with its input.
 #[derive(Debug, PartialEq, Eq)]
 pub enum Task {
-    /// Reads a ledger.
-    Read,
-    /// Reads a ledger on behind damage.
-    Recover,
+    /// Reads a ledger; where `strict`, refuses lost lines and other flags than `*` and `!`.
+    Read { strict: bool },
+    /// Reads a ledger on behind damage, each block as `Read` does.
+    Recover { strict: bool },
     /// Evaluates an expression; where `exact`, refuses what it would round.
     Eval { exact: bool },
     /// Writes a ledger's rows as a packet: those of plain reading, or of recovering reading.
@@ -145,6 +145,7 @@ fn job(verb: Verb, mut words: impl Iterator<Item = OsString>) -> Result<Request,
 #[derive(Default)]
 struct Options {
     form: Option<Form>,
+    strict: bool,
     exact: bool,
     recovering: bool,
     reading: bool,
@@ -159,6 +160,7 @@ impl Options {
             (Verb::Read | Verb::Recover | Verb::Packet | Verb::Edit, "--rows") => {
                 return self.add_form(Form::Rows)
             }
+            (Verb::Read | Verb::Recover, "--strict") => self.strict = true,
             (Verb::Eval, "--exact") => self.exact = true,
             (Verb::Edit, "--in-place") => self.change.in_place = true,
             (Verb::Packet, "--recover") => self.recovering = true,
@@ -181,8 +183,12 @@ impl Options {
     fn task(self, verb: Verb, input: &Input) -> Result<Task, Usage> {
         let task =
             match verb {
-                Verb::Read => Task::Read,
-                Verb::Recover => Task::Recover,
+                Verb::Read => Task::Read {
+                    strict: self.strict,
+                },
+                Verb::Recover => Task::Recover {
+                    strict: self.strict,
+                },
                 Verb::Eval => Task::Eval { exact: self.exact },
                 Verb::Packet if self.reading && self.recovering => return wrong(
                     "--recover is for writing a packet, --read for a written one: give one of them",
@@ -259,15 +265,28 @@ mod tests {
         let file = || Input::File("a".into());
         assert_eq!(
             parsed(&["read", "a"]),
-            run(Task::Read, file(), Form::Person)
+            run(Task::Read { strict: false }, file(), Form::Person)
         );
         assert_eq!(
             parsed(&["read", "--rows", "a"]),
-            run(Task::Read, file(), Form::Rows)
+            run(Task::Read { strict: false }, file(), Form::Rows)
         );
         assert_eq!(
             parsed(&["recover", "a", "--json"]),
-            run(Task::Recover, file(), Form::Json)
+            run(Task::Recover { strict: false }, file(), Form::Json)
+        );
+    }
+
+    #[test]
+    fn a_ledger_may_be_read_strictly() {
+        let file = || Input::File("a".into());
+        for words in [["read", "--strict", "a"], ["read", "a", "--strict"]] {
+            let expected = run(Task::Read { strict: true }, file(), Form::Person);
+            assert_eq!(parsed(&words), expected);
+        }
+        assert_eq!(
+            parsed(&["recover", "--rows", "--strict", "a"]),
+            run(Task::Recover { strict: true }, file(), Form::Rows)
         );
     }
 
@@ -276,7 +295,7 @@ mod tests {
         let standard = || Input::Standard;
         assert_eq!(
             parsed(&["read", "-"]),
-            run(Task::Read, standard(), Form::Person)
+            run(Task::Read { strict: false }, standard(), Form::Person)
         );
         assert_eq!(
             parsed(&["eval", "-"]),
@@ -360,7 +379,7 @@ mod tests {
 
     #[test]
     fn wrong_words_of_an_edit_are_told() {
-        let wrong: [&[&str]; 17] = [
+        let wrong: [&[&str]; 18] = [
             &[],
             &["a"],
             &["a", "--lines", "5"],
@@ -373,6 +392,7 @@ mod tests {
             &["a", "--lines", "5", "--lines", "5", "--with", "new"],
             &["a", "--lines", "5", "--with", "new", "--frob"],
             &["a", "--lines", "5", "--with", "new", "--exact"],
+            &["a", "--lines", "5", "--with", "new", "--strict"],
             &["a", "--lines", "5", "--with", "new", "--rows", "--json"],
             &["a", "--lines", "5", "--with", "new", "--output", "-"],
             &[
@@ -416,7 +436,7 @@ mod tests {
 
     #[test]
     fn wrong_words_are_told() {
-        let wrong: [&[&str]; 17] = [
+        let wrong: [&[&str]; 20] = [
             &[],
             &["frob"],
             &["help", "frob"],
@@ -425,12 +445,15 @@ mod tests {
             &["read", "--frob", "a"],
             &["read", "--exact", "a"],
             &["read", "--rows", "--json", "a"],
+            &["read", "--strict"],
             &["eval", "--rows", "1"],
+            &["eval", "--strict", "1"],
             &["eval", "1", "+", "2"],
             &["packet"],
             &["packet", "--read"],
             &["packet", "a", "b"],
             &["packet", "--exact", "a"],
+            &["packet", "--strict", "a"],
             &["packet", "--rows", "a"],
             &["packet", "--read", "--recover", "a"],
             &["packet", "--read", "--rows", "--json", "a"],

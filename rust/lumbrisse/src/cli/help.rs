@@ -32,6 +32,7 @@ Usage:
 A FILE, NEW or EXPRESSION of - is standard input, and so is the OUT of packet --read.
 
 Options:
+  --strict    read, recover: refuse lines that look like entries and would be taken for comments
   --rows      read, recover, packet --read, edit: the rows themselves, one to a line
   --json      the answer as JSON
   --exact     eval: refuse what would be rounded
@@ -45,6 +46,8 @@ Start here:
   lumbrisse read examples/clean.beancount         a ledger that is whole
   lumbrisse read examples/building.beancount      the same with an open quote: refused
   lumbrisse recover examples/building.beancount   the damage named, the rest kept
+  lumbrisse read --strict examples/strict/short-date.beancount
+                                                  a line that would be lost in silence
 
 Exit status:
   0  accepted
@@ -53,7 +56,7 @@ Exit status:
 ";
 
 const READ: &str = "\
-lumbrisse read [--rows | --json] FILE
+lumbrisse read [--strict] [--rows | --json] FILE
 
 Plain reading. The ledger is accepted as a whole, or refused with a number from 1 to 8 and a place.
 
@@ -68,6 +71,19 @@ Refused, it says on standard error what is missing, with the line and a mark und
 Refusal 4 stands at the start of its entry. The usual causes: a quote that is not closed, an account
 of one part, a line with something left over.
 
+Plain reading takes a line that no entry reads for a comment. With --strict it is refused, if it looks
+like an entry or a posting; that comes after all other refusals:
+  refusal 16  a line that no entry reads, and that starts with a digit, with blanks and then anything
+              but a comment, or with the word option: a date of another form, a mistyped word, a
+              posting with a currency in small letters
+  refusal 17  a transaction whose flag is neither * nor !
+What --strict accepts has the same rows. Without it, standard error says how many such lines and flags
+there are, and where the first is; the exit status is 0 all the same.
+
+Where a quote was left open and a later one closed it, postings or whole entries are part of a string, and
+the ledger is accepted. So standard error names the first line within a string that starts like an entry,
+with a digit, or like a posting, with blanks and an account; with --strict too.
+
 With --rows, a line for each row: kind start end line p q value
   1 to 13   an entry; p is its date, q the number of detail rows after it
   20 to 37  a detail: flag, payee, narration, tag, account, amount, posting ..
@@ -78,7 +94,7 @@ With --json, one object: \"accepted\", then \"rows\" or \"refusal\".
 ";
 
 const RECOVER: &str = "\
-lumbrisse recover [--rows | --json] FILE
+lumbrisse recover [--strict] [--rows | --json] FILE
 
 Recovering reading. The ledger is cut before each line that starts with a digit or small letter, and
 each block is read by itself. So one open quote costs its own block and cannot fold the next reading
@@ -86,6 +102,12 @@ into a narration.
 
 Each refused block is named by its lines, with what is wrong in it; then come the number of entries
 that were kept, by kind, and the first and last date of these.
+
+With --strict each block is read as `lumbrisse read --strict` reads a ledger, so a block with a line that
+would be lost is refused. Without it, standard error says how many such lines were kept as comments.
+
+A quote that is left open and closed within the same block can still swallow its postings. So standard
+error names the first line that starts like a posting within a string of a kept block, with --strict too.
 
 With --rows, the rows of all kept blocks, and for each refused block a row of kind 90: its span and
 line, p the refusal's number, q the refusal's place.

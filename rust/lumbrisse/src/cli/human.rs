@@ -9,9 +9,7 @@ use super::paint::Paint;
 use super::place::{self, Known, Place};
 use super::source::Source;
 use super::summary::{refused_blocks, Summary};
-use super::{decimal, exact};
-
-const OPEN_QUOTE: &str = "this line has an odd number of quotes: one may have been left open";
+use super::{decimal, exact, hint};
 
 /// A ledger that plain reading accepted.
 pub fn accepted(
@@ -66,9 +64,8 @@ pub fn refused(
     if refusal.has_place() {
         marked(out, paint, source, &at, refusal.place)?;
     }
-    // Refusal 4 stands at its entry's start, wherever the missing part is.
-    if refusal.number == 4 && place::has_odd_quotes(&source.bytes, refusal.place) {
-        note(out, OPEN_QUOTE)?;
+    for hint in hint::of(&source.bytes, known, refusal) {
+        note(out, &hint)?;
     }
     Ok(())
 }

@@ -5,15 +5,19 @@ mod change;
 mod decimal;
 mod edit;
 mod exact;
+mod folded;
 mod fraction;
 mod help;
+mod hint;
 mod human;
 mod json;
 mod lines;
 mod listing;
+mod lost;
 mod packet;
 mod paint;
 mod place;
+mod remark;
 mod rows;
 mod shown;
 mod source;
@@ -96,8 +100,8 @@ fn run_job(job: &Job) -> Status {
     };
     let mut out = BufWriter::new(io::stdout().lock());
     let (written, status) = match &job.task {
-        Task::Read => read(&mut out, job.form, &source),
-        Task::Recover => recover(&mut out, job.form, &source),
+        Task::Read { strict } => read(&mut out, job.form, *strict, &source),
+        Task::Recover { strict } => recover(&mut out, job.form, *strict, &source),
         Task::Eval { exact } => eval(&mut out, job.form, *exact, &source),
         Task::WritePacket { recovering } => packet::write(&mut out, *recovering, &source),
         Task::ReadPacket => packet::read(&mut out, job.form, &source),
@@ -109,22 +113,41 @@ fn run_job(job: &Job) -> Status {
 /// What was written, and how the run ends.
 type Outcome = (io::Result<()>, Status);
 
-fn read(out: &mut impl Write, form: Form, source: &Source) -> Outcome {
-    match lumbrisse::read_to_vec(&source.bytes) {
+fn read(out: &mut impl Write, form: Form, strict: bool, source: &Source) -> Outcome {
+    let answer = match strict {
+        true => lumbrisse::read_strict_to_vec(&source.bytes),
+        false => lumbrisse::read_to_vec(&source.bytes),
+    };
+    match answer {
         Ok(table) => {
             let written = match form {
                 Form::Person => human::accepted(out, Paint::stdout(), source, &table),
                 Form::Rows => rows::list(out, Rows::new(&table)),
                 Form::Json => json::accepted(out, source, &table),
             };
+            // The answer stands above what is said of it.
+            let written = written.and_then(|()| out.flush());
+            remark::lenient(source, &table, "read");
+            remark::folded(source, &table);
             (written, Status::Accepted)
         }
-        Err(refusal) => refused(out, form, source, refusal),
+        Err(refusal) => {
+            let outcome = refused(out, form, source, refusal);
+            // What strict reading alone refuses has rows, and an open quote further up may be why.
+            if let Some(Ok(table)) = strict.then(|| lumbrisse::read_to_vec(&source.bytes)) {
+                remark::folded(source, &table);
+            }
+            outcome
+        }
     }
 }
 
-fn recover(out: &mut impl Write, form: Form, source: &Source) -> Outcome {
-    match lumbrisse::recover_to_vec(&source.bytes) {
+fn recover(out: &mut impl Write, form: Form, strict: bool, source: &Source) -> Outcome {
+    let answer = match strict {
+        true => lumbrisse::recover_strict_to_vec(&source.bytes),
+        false => lumbrisse::recover_to_vec(&source.bytes),
+    };
+    match answer {
         Ok(table) => told(out, form, source, &table),
         Err(refusal) => refused(out, form, source, refusal),
     }
@@ -137,6 +160,10 @@ fn told(out: &mut impl Write, form: Form, source: &Source, table: &[u8]) -> Outc
         Form::Rows => rows::list(out, Rows::new(table)),
         Form::Json => json::recovered(out, source, table),
     };
+    let written = written.and_then(|()| out.flush());
+    remark::lenient(source, table, "recover");
+    // A line that starts with a digit starts a block, but a posting may lie within a string of a kept one.
+    remark::folded(source, table);
     (written, recovered(table))
 }
 

@@ -1,12 +1,9 @@
-//! Made-up ledgers, and edits of them as a correction by hand makes them, good and bad.
-
-use std::ops::Range;
+//! Made-up ledgers, good and bad.
 
 use super::dice::Dice;
-use super::model;
 
 /// Entries of all sorts, some with carriage returns.
-const ENTRIES: [&[u8]; 14] = [
+pub const ENTRIES: [&[u8]; 14] = [
     b"2024-01-31 * \"Office\" \"Flat 2\" #a ^l\n  Meters:Flat-2  12.5 KWH {2 EUR} @ 1/3 EUR\n  Cellar:Main\n",
     b"2024-01-31 * \"x\"\r\n  ! A:B  1 EUR\r\n",
     b"2024-02-29 txn \"say \\\"x\n2024 y\"\n  A:B  1 EUR @@ 2 EUR\n",
@@ -24,7 +21,7 @@ const ENTRIES: [&[u8]; 14] = [
 ];
 
 /// What a block is refused for.
-const DAMAGE: [&[u8]; 8] = [
+pub const DAMAGE: [&[u8]; 8] = [
     b"2024-01-31 * \"open quote\n",
     b"2024-01-31\n",
     b"includes\n",
@@ -48,7 +45,7 @@ const BETWEEN: [&[u8]; 8] = [
 ];
 
 /// Ends without line feed.
-const ENDS: [&[u8]; 6] = [
+pub const ENDS: [&[u8]; 6] = [
     b"pushtag #",
     b"2024-01-31 close A:B",
     b"x",
@@ -58,7 +55,7 @@ const ENDS: [&[u8]; 6] = [
 ];
 
 /// A text of lines, mostly entries.
-fn lines(dice: &mut Dice) -> Vec<u8> {
+pub fn lines(dice: &mut Dice) -> Vec<u8> {
     let count = dice.below(5);
     let line = |_| match dice.below(8) {
         0 => dice.pick(&DAMAGE),
@@ -75,63 +72,4 @@ pub fn ledger(dice: &mut Dice) -> Vec<u8> {
         ledger.extend(dice.pick(&ENDS));
     }
     ledger
-}
-
-/// What may take the place of a block in the middle: nothing, or some blocks.
-fn blocks(dice: &mut Dice) -> Vec<u8> {
-    let first = match dice.below(6) {
-        0 => return Vec::new(),
-        1 => dice.pick(&DAMAGE),
-        _ => dice.pick(&ENTRIES),
-    };
-    let mut text = first.to_vec();
-    if dice.below(2) == 0 {
-        text.extend(lines(dice));
-    }
-    text
-}
-
-/// An edit: a block, mostly, and what takes its place, mostly as it may be.
-pub fn edit(dice: &mut Dice, ledger: &[u8]) -> (Range<usize>, Vec<u8>) {
-    let all = model::blocks(ledger);
-    // Half of the time it is the first or the last one.
-    let number = [
-        0,
-        all.len() - 1,
-        dice.below(all.len()),
-        dice.below(all.len()),
-    ][dice.below(4)];
-    let block = all[number].clone();
-    let new = match dice.below(8) {
-        0 => self::ledger(dice),
-        1 if block.end == ledger.len() => [blocks(dice), dice.pick(&ENDS).to_vec()].concat(),
-        2 | 3 if block.start == 0 => lines(dice),
-        _ => blocks(dice),
-    };
-    let block = match dice.below(8) {
-        0 => no_block(dice, ledger, block),
-        _ => block,
-    };
-    (block, new)
-}
-
-/// A block with another start or end, which now and then is one too.
-fn no_block(dice: &mut Dice, ledger: &[u8], block: Range<usize>) -> Range<usize> {
-    let Range { start, end } = block;
-    let places = [
-        0,
-        start.saturating_sub(1),
-        start + 1,
-        end.saturating_sub(1),
-        end,
-        end + 1,
-        ledger.len(),
-        dice.below(ledger.len() + 1),
-        usize::MAX,
-    ];
-    let place = places[dice.below(places.len())];
-    match dice.below(2) {
-        0 => place..end,
-        _ => start..place,
-    }
 }
