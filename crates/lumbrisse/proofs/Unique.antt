@@ -25,7 +25,7 @@ use Rattle.lumbrisse.specs.Promises.{TablePromise, ContentPromise, Expre
 pub same-defined : {A : Type 0} {x r q : A} → r ≡ x → q ≡ x → r ≡ q
 same-defined e f = e ∙ sym f
 
--- ---- two answers to one call; a table is that of plain and of recovering reading, and of an edit
+-- ---- two answers to one call; a table is that of plain and of recovering reading, in either profile, and of an edit
 
 pub table-unique : {x : Reading} {t u v : List ℕ} {r q : Reply} → TablePromise x t r u → TablePromise x t q v → (r ≡ q) × (u ≡ v)
 table-unique a b = (same-defined (a .reply) (b .reply), same-defined (a .rows) (b .rows))

@@ -19,7 +19,7 @@ use Rattle.lumbrisse.specs.declared.reply.Handed.{Handed}
 use Rattle.lumbrisse.specs.declared.reply.Part.{Part}
 use Rattle.lumbrisse.specs.Numbers.{replyOf, writtenReply, forceReply, evaluatedOf, partOf, handedOf}
 
--- a reading of a ledger into a table t: plain, recovering, or that of an edited ledger
+-- a reading of a ledger into a table t: plain or recovering, in either profile, or that of an edited ledger
 pub record TablePromise (reading : Reading) (t : List ℕ) (r : Reply) (u : List ℕ) : Type 0 where
   pub reply : r ≡ replyOf (answer reading (length t / width))
   pub rows : u ≡ left reading t
