@@ -11,13 +11,13 @@ use Rattle.amount.specs.Expression.{expression}
 use Rattle.amount.specs.Amounts.{amount, hardGap, hardCurrency, hardAmount, priceOf}
 use Rattle.amount.proofs.ExpressionEnds.{expression-reach}
 use Rattle.amount.proofs.AmountLaws.{hard-gap-reach, hard-currency-reach}
-use Rattle.amount.proofs.RowCounts.{Unflagged, Fits, to-fits, fits-from, then-fits, and-fits, Bare, must-bare, bare-and, gap-bare, currency-bare}
+use Rattle.amount.proofs.RowCounts.{Kinds, Of, FitsFrom, Fits, to-fits, fits-from, then-fits, and-fits, Bare, must-bare, bare-and, gap-bare, currency-bare}
 
 module _ (s : List ℕ) where
   abbrev N : ℕ
   N = length s
 
-  pub amount-fits : (k at : ℕ) → Unflagged k → Fits s at (amount k s at)
+  pub amount-fits : {K : Kinds} (k at : ℕ) → Of K k → FitsFrom K s at (amount k s at)
   unfolding amount
   amount-fits k at h =
       then-fits N (at + 1) at (expression s at) _ (expression-reach s at) (λ e v p₁ q₁.
@@ -34,7 +34,7 @@ module _ (s : List ℕ) where
       bare-and N (at + 1) at (must at (currency s at)) _ (must-reach N (at + 1) at _ (currency-reach s at)) (must-bare at _ (currency-bare s at)) (λ e p q.
       to-fits at e _ (omega arith))
 
-  pub hard-amount-fits : (k at : ℕ) → Unflagged k → Fits s at (hardAmount k s at)
+  pub hard-amount-fits : {K : Kinds} (k at : ℕ) → Of K k → FitsFrom K s at (hardAmount k s at)
   unfolding hardAmount
   hard-amount-fits k at h =
       then-fits N (at + 1) at (must at (expression s at)) _ (must-reach N (at + 1) at _ (expression-reach s at)) (λ e v p₁ q₁.

@@ -3,6 +3,7 @@ pub mod ByteSteps
 pub mod Literals
 pub mod LiteralLaws
 pub mod ValueLaws
+pub mod ValueSizes
 pub mod Forms
 pub mod ExpressionEnds
 pub mod ExpressionSame

@@ -1,5 +1,5 @@
 -- The rows of a reading from k to j: they stand in order of start, start from k to j, at j only in mid-line, end at j at
--- the latest, have kinds between a flag's and a refusal row's, and are no more than the bytes. Tokens make none.
+-- the latest, have the kinds that their rule makes, and are no more than the bytes. Tokens make none.
 use Prim.Native.Nat.{ℕ, zero, suc, _+_, _-_, _≤_, _<_}
 use native.Mathlib.Omega.{arith}
 use mathlib.Core.Path.{_≡_, refl, subst}
@@ -40,92 +40,126 @@ mid-line s at m e h =
 abbrev pub flagKind : ℕ
 flagKind = 20
 
--- a kind of any detail but a flag
-abbrev pub Unflagged : ℕ → Type 0
-Unflagged kind = (flagKind < kind) × (kind < refusalKind)
+-- the kind of a posting's row: what may follow it in its line and what may stand in a head is below, metadata above
+abbrev pub postingKind : ℕ
+postingKind = 33
 
--- starts that rise from k to j: an empty tag's row starts where its reading ends, behind its mark; kinds are `low` at the least
-abbrev pub Rising : ℕ → List ℕ → ℕ → ℕ → List Detail → Type 0
-Rising low s k j [] = k ≤ j
-Rising low s k j (d ∷ ds) =
-    (k ≤ d .start) × (d .start < j + midLine s (d .start)) × ((low ≤ d .kind) × (d .kind < refusalKind) × (d .end ≤ j)) × Rising low s (d .start) j ds
+-- kinds from `low` on that are below `high`
+pub record Kinds : Type 0 where
+  pub low : ℕ
+  pub high : ℕ
+
+abbrev pub anyKinds : Kinds
+anyKinds = record { low = flagKind; high = refusalKind }
+
+-- any detail's but a flag's
+abbrev pub unflagged : Kinds
+unflagged = record { low = suc flagKind; high = refusalKind }
+
+abbrev pub headKinds : Kinds
+headKinds = record { low = flagKind; high = postingKind }
+
+abbrev pub partKinds : Kinds
+partKinds = record { low = suc flagKind; high = postingKind }
+
+abbrev pub metaKinds : Kinds
+metaKinds = record { low = suc postingKind; high = refusalKind }
+
+-- a kind among those
+abbrev pub Of : Kinds → ℕ → Type 0
+Of K kind = (K .low ≤ kind) × (kind < K .high)
+
+-- all that are among these are among those
+abbrev pub Among : Kinds → Kinds → Type 0
+Among K L = (L .low ≤ K .low) × (K .high ≤ L .high)
+
+-- starts that rise from k to j: an empty tag's row starts where its reading ends, behind its mark
+abbrev pub Rising : Kinds → List ℕ → ℕ → ℕ → List Detail → Type 0
+Rising K s k j [] = k ≤ j
+Rising K s k j (d ∷ ds) =
+    (k ≤ d .start) × (d .start < j + midLine s (d .start)) × ((K .low ≤ d .kind) × (d .kind < K .high) × (d .end ≤ j)) × Rising K s (d .start) j ds
 
 -- and are no more than the bytes
-abbrev pub Placed : ℕ → List ℕ → ℕ → ℕ → List Detail → Type 0
-Placed low s k j ds = Rising low s k j ds × (k + length ds ≤ j)
+abbrev pub Placed : Kinds → List ℕ → ℕ → ℕ → List Detail → Type 0
+Placed K s k j ds = Rising K s k j ds × (k + length ds ≤ j)
 
--- a wider reading, and a lower bound of kinds
-pub rising-wide : (high low : ℕ) (s : List ℕ) (k j l m : ℕ) (ds : List Detail) → low ≤ high → l ≤ k → j ≤ m → Rising high s k j ds → Rising low s l m ds
-rising-wide high low s k j l m [] b h g r = omega arith
-rising-wide high low s k j l m (d ∷ ds) b h g r =
-    (omega (arith, r .0), omega (arith, r .1), omega (arith, r .2), rising-wide high low s (d .start) j (d .start) m ds b (omega arith) g (r .3))
+-- a wider reading, and more kinds
+pub rising-wide : (K L : Kinds) (s : List ℕ) (k j l m : ℕ) (ds : List Detail) → Among K L → l ≤ k → j ≤ m → Rising K s k j ds → Rising L s l m ds
+rising-wide K L s k j l m [] b h g r = omega arith
+rising-wide K L s k j l m (d ∷ ds) b h g r =
+    (omega (arith, r .0), omega (arith, r .1), omega (arith, r .2, b), rising-wide K L s (d .start) j (d .start) m ds b (omega arith) g (r .3))
 
-pub placed-wide : (high low : ℕ) (s : List ℕ) (k j l m : ℕ) (ds : List Detail) → low ≤ high → l ≤ k → j ≤ m → Placed high s k j ds → Placed low s l m ds
-placed-wide high low s k j l m ds b h g r = (rising-wide high low s k j l m ds b h g (r .0), omega (arith, r .1))
+pub placed-wide : (K L : Kinds) (s : List ℕ) (k j l m : ℕ) (ds : List Detail) → Among K L → l ≤ k → j ≤ m → Placed K s k j ds → Placed L s l m ds
+placed-wide K L s k j l m ds b h g r = (rising-wide K L s k j l m ds b h g (r .0), omega (arith, r .1))
 
-rising-append : (low : ℕ) (s : List ℕ) (k j l : ℕ) (xs ys : List Detail) → j ≤ l → Rising low s k j xs → Rising low s j l ys → Rising low s k l (xs ++ ys)
-rising-append low s k j l [] ys h p q = rising-wide low low s j l k l ys (omega arith) p (omega arith) q
-rising-append low s k j l (d ∷ xs) ys h p q = (p .0, omega (arith, p .1), omega (arith, p .2), rising-append low s (d .start) j l xs ys h (p .3) q)
+rising-append : (K : Kinds) (s : List ℕ) (k j l : ℕ) (xs ys : List Detail) → j ≤ l → Rising K s k j xs → Rising K s j l ys → Rising K s k l (xs ++ ys)
+rising-append K s k j l [] ys h p q = rising-wide K K s j l k l ys (omega arith) p (omega arith) q
+rising-append K s k j l (d ∷ xs) ys h p q = (p .0, omega (arith, p .1), omega (arith, p .2), rising-append K s (d .start) j l xs ys h (p .3) q)
 
 -- ---- answers on a text, where w takes the rows out of what was read
 
-abbrev pub Rowed : {A : Type 0} → ℕ → List ℕ → (A → List Detail) → ℕ → Ans A → Type 0
-Rowed low s w k (To j x) = Placed low s k j (w x)
-Rowed low s w k Miss = Unit {0}
-Rowed low s w k (Hard i p) = Unit {0}
+abbrev pub Rowed : {A : Type 0} → Kinds → List ℕ → (A → List Detail) → ℕ → Ans A → Type 0
+Rowed K s w k (To j x) = Placed K s k j (w x)
+Rowed K s w k Miss = Unit {0}
+Rowed K s w k (Hard i p) = Unit {0}
 
-pub record Holds {A : Type 0} (low : ℕ) (s : List ℕ) (w : A → List Detail) (k : ℕ) (a : Ans A) : Type 0 where
-  pub rows : Rowed low s w k a
+pub record Holds {A : Type 0} (K : Kinds) (s : List ℕ) (w : A → List Detail) (k : ℕ) (a : Ans A) : Type 0 where
+  pub rows : Rowed K s w k a
 
 -- the answer of a reader that makes rows
-abbrev pub FitsFrom : ℕ → List ℕ → ℕ → Rows → Type 0
-FitsFrom low s k a = Holds low s (λ rs. rs) k a
+abbrev pub FitsFrom : Kinds → List ℕ → ℕ → Rows → Type 0
+FitsFrom K s k a = Holds K s (λ rs. rs) k a
 
 -- none of a flag's kind
 abbrev pub Fits : List ℕ → ℕ → Rows → Type 0
-Fits s k a = FitsFrom (suc flagKind) s k a
+Fits s k a = FitsFrom unflagged s k a
 
-module _ {A : Type 0} {low : ℕ} {s : List ℕ} {w : A → List Detail} where
-  pub to-fits : (k j : ℕ) (x : A) → Placed low s k j (w x) → Holds low s w k (To j x)
+module _ {A : Type 0} {K : Kinds} {s : List ℕ} {w : A → List Detail} where
+  pub to-fits : (k j : ℕ) (x : A) → Placed K s k j (w x) → Holds K s w k (To j x)
   to-fits k j x h = record { rows = h }
 
-  pub miss-fits : (k : ℕ) → Holds low s w k Miss
+  pub miss-fits : (k : ℕ) → Holds K s w k Miss
   miss-fits k = record { rows = tt }
 
-  pub hard-fits : (k i p : ℕ) → Holds low s w k (Hard i p)
+  pub hard-fits : (k i p : ℕ) → Holds K s w k (Hard i p)
   hard-fits k i p = record { rows = tt }
 
   -- what was read
-  pub fits-at : (k j : ℕ) (x : A) (a : Ans A) → Holds low s w k a → a ≡ To j x → Placed low s k j (w x)
-  fits-at k j x a h e = subst (Holds low s w k) e h .rows
+  pub fits-at : (k j : ℕ) (x : A) (a : Ans A) → Holds K s w k a → a ≡ To j x → Placed K s k j (w x)
+  fits-at k j x a h e = subst (Holds K s w k) e h .rows
 
-  pub fits-from : (i k : ℕ) (a : Ans A) → k ≤ i → Holds low s w i a → Holds low s w k a
-  fits-from i k (To j x) h r = to-fits k j x (placed-wide low low s i j k j (w x) (omega arith) h (omega arith) (r .rows))
+  pub fits-from : (i k : ℕ) (a : Ans A) → k ≤ i → Holds K s w i a → Holds K s w k a
+  fits-from i k (To j x) h r = to-fits k j x (placed-wide K K s i j k j (w x) (omega arith) h (omega arith) (r .rows))
   fits-from i k Miss h r = miss-fits k
   fits-from i k (Hard l p) h r = hard-fits k l p
 
-  pub must-fits : (k at : ℕ) (a : Ans A) → Holds low s w k a → Holds low s w k (must at a)
+  pub fits-wide : (L : Kinds) (k : ℕ) (a : Ans A) → Among K L → Holds K s w k a → Holds L s w k a
+  fits-wide L k (To j x) b r = record { rows = placed-wide K L s k j k j (w x) b (omega arith) (omega arith) (r .rows) }
+  fits-wide L k Miss b r = record { rows = tt }
+  fits-wide L k (Hard i p) b r = record { rows = tt }
+
+  pub must-fits : (k at : ℕ) (a : Ans A) → Holds K s w k a → Holds K s w k (must at a)
   unfolding must
   must-fits k at (To j x) r = r
   must-fits k at Miss r = hard-fits k 4 at
   must-fits k at (Hard i p) r = r
 
-  pub else-fits : (k : ℕ) (a b : Ans A) → Holds low s w k a → Holds low s w k b → Holds low s w k (a else b)
+  pub else-fits : (k : ℕ) (a b : Ans A) → Holds K s w k a → Holds K s w k b → Holds K s w k (a else b)
   unfolding _else_
   else-fits k (To j x) b r q = r
   else-fits k Miss b r q = q
   else-fits k (Hard i p) b r q = r
 
 -- what follows may know the rows of the first
-pub then-rows : {A B : Type 0} {low : ℕ} {s : List ℕ} (w : A → List Detail) {v : B → List Detail} (n i l k : ℕ) (a : Ans A) (g : ℕ → A → Ans B) → Reach n i a → Holds low s w l a
-    → ((j : ℕ) (x : A) → i ≤ j → j ≤ n → Placed low s l j (w x) → Holds low s v k (g j x)) → Holds low s v k (a then g)
+pub then-rows : {A B : Type 0} {K : Kinds} {s : List ℕ} (w : A → List Detail) {v : B → List Detail} (n i l k : ℕ) (a : Ans A) (g : ℕ → A → Ans B) → Reach n i a → Holds K s w l a
+    → ((j : ℕ) (x : A) → i ≤ j → j ≤ n → Placed K s l j (w x) → Holds K s v k (g j x)) → Holds K s v k (a then g)
 unfolding _then_
 then-rows w n i l k (To j x) g r h f = f j x (r .ends .0) (r .ends .1) (h .rows)
 then-rows w n i l k Miss g r h f = miss-fits k
 then-rows w n i l k (Hard m p) g r h f = hard-fits k m p
 
-pub then-fits : {A B : Type 0} {low : ℕ} {s : List ℕ} {v : B → List Detail} (n i k : ℕ) (a : Ans A) (g : ℕ → A → Ans B) → Reach n i a
-    → ((j : ℕ) (x : A) → i ≤ j → j ≤ n → Holds low s v k (g j x)) → Holds low s v k (a then g)
+pub then-fits : {A B : Type 0} {K : Kinds} {s : List ℕ} {v : B → List Detail} (n i k : ℕ) (a : Ans A) (g : ℕ → A → Ans B) → Reach n i a
+    → ((j : ℕ) (x : A) → i ≤ j → j ≤ n → Holds K s v k (g j x)) → Holds K s v k (a then g)
 unfolding _then_
 then-fits n i k (To j x) g r f = f j x (r .ends .0) (r .ends .1)
 then-fits n i k Miss g r f = miss-fits k
@@ -133,25 +167,25 @@ then-fits n i k (Hard m p) g r f = hard-fits k m p
 
 -- ---- rows, and what follows
 
-pub and-fits : {low : ℕ} {s : List ℕ} (n i k : ℕ) (a : Rows) (g : ℕ → Rows) → Reach n i a → FitsFrom low s k a → ((j : ℕ) → i ≤ j → j ≤ n → FitsFrom low s j (g j)) → FitsFrom low s k (a and g)
+pub and-fits : {K : Kinds} {s : List ℕ} (n i k : ℕ) (a : Rows) (g : ℕ → Rows) → Reach n i a → FitsFrom K s k a → ((j : ℕ) → i ≤ j → j ≤ n → FitsFrom K s j (g j)) → FitsFrom K s k (a and g)
 unfolding _and_ more
-and-fits {low = low} {s = s} n i k (To j xs) g r u f = on (g j) (f j (r .ends .0) (r .ends .1))
+and-fits {K = K} {s = s} n i k (To j xs) g r u f = on (g j) (f j (r .ends .0) (r .ends .1))
   where
-    on : (c : Rows) → FitsFrom low s j c → FitsFrom low s k (more xs c)
-    on (To l ys) h = to-fits k l (xs ++ ys) (rising-append low s k j l xs ys (omega (arith, h .rows .1)) (u .rows .0) (h .rows .0), omega (arith, length-append xs ys))
+    on : (c : Rows) → FitsFrom K s j c → FitsFrom K s k (more xs c)
+    on (To l ys) h = to-fits k l (xs ++ ys) (rising-append K s k j l xs ys (omega (arith, h .rows .1)) (u .rows .0) (h .rows .0), omega (arith, length-append xs ys))
     on Miss h = miss-fits k
     on (Hard l p) h = hard-fits k l p
 and-fits n i k Miss g r u f = miss-fits k
 and-fits n i k (Hard l p) g r u f = hard-fits k l p
 
-pub maybe-fits : {low : ℕ} {s : List ℕ} (at : ℕ) (a : Rows) → FitsFrom low s at a → FitsFrom low s at (maybe at a)
+pub maybe-fits : {K : Kinds} {s : List ℕ} (at : ℕ) (a : Rows) → FitsFrom K s at a → FitsFrom K s at (maybe at a)
 unfolding maybe
 maybe-fits at (To j xs) r = r
 maybe-fits at Miss r = to-fits at at [] (omega arith)
 maybe-fits at (Hard l p) r = r
 
-pub many-fits : {low : ℕ} {s : List ℕ} (n : ℕ) (f : ℕ → Rows) → ((i : ℕ) → i ≤ n → Reach n (i + 1) (f i)) → ((i : ℕ) → i ≤ n → FitsFrom low s i (f i))
-    → (d i : ℕ) → i ≤ n → FitsFrom low s i (many f d i)
+pub many-fits : {K : Kinds} {s : List ℕ} (n : ℕ) (f : ℕ → Rows) → ((i : ℕ) → i ≤ n → Reach n (i + 1) (f i)) → ((i : ℕ) → i ≤ n → FitsFrom K s i (f i))
+    → (d i : ℕ) → i ≤ n → FitsFrom K s i (many f d i)
 unfolding many
 many-fits n f r u zero i h = to-fits i i [] (omega arith)
 many-fits n f r u (suc d) i h =
@@ -183,17 +217,17 @@ must-bare at (To j x) h = h
 must-bare at Miss h = record { none = tt }
 must-bare at (Hard k p) h = h
 
-pub bare-fits : {low : ℕ} {s : List ℕ} (n k : ℕ) (a : Rows) → Reach n k a → Bare a → FitsFrom low s k a
+pub bare-fits : {K : Kinds} {s : List ℕ} (n k : ℕ) (a : Rows) → Reach n k a → Bare a → FitsFrom K s k a
 bare-fits n k (To j xs) r e = rw (e .none) (to-fits k j [] (omega arith))
 bare-fits n k Miss r e = miss-fits k
 bare-fits n k (Hard l p) r e = hard-fits k l p
 
 -- a token, and what follows
-pub bare-and : {low : ℕ} {s : List ℕ} (n i k : ℕ) (a : Rows) (g : ℕ → Rows) → Reach n i a → Bare a → ((j : ℕ) → i ≤ j → j ≤ n → FitsFrom low s k (g j)) → FitsFrom low s k (a and g)
+pub bare-and : {K : Kinds} {s : List ℕ} (n i k : ℕ) (a : Rows) (g : ℕ → Rows) → Reach n i a → Bare a → ((j : ℕ) → i ≤ j → j ≤ n → FitsFrom K s k (g j)) → FitsFrom K s k (a and g)
 unfolding _and_ more
-bare-and {low = low} {s = s} n i k (To j xs) g r e f = on (g j) (f j (r .ends .0) (r .ends .1))
+bare-and {K = K} {s = s} n i k (To j xs) g r e f = on (g j) (f j (r .ends .0) (r .ends .1))
   where
-    on : (c : Rows) → FitsFrom low s k c → FitsFrom low s k (more xs c)
+    on : (c : Rows) → FitsFrom K s k c → FitsFrom K s k (more xs c)
     on (To l ys) h = rw (e .none) h
     on Miss h = h
     on (Hard l p) h = h
@@ -236,24 +270,24 @@ module _ (s : List ℕ) (at : ℕ) where
 
 -- ---- strings, tags and links, and what follows: it knows that behind their mark it is mid-line
 
-marked-and : (s : List ℕ) (n i k at m : ℕ) (r : Read) (g : ℕ → Rows) → (m ≡ 10 → ⊥) → Reach n i (token {A = Detail} (cond (eqb (getD s at 0) m) r Read.Miss))
-    → (midLine s (at + 1) ≡ 1 → (j : ℕ) → i ≤ j → j ≤ n → Fits s k (g j)) → Fits s k (token (cond (eqb (getD s at 0) m) r Read.Miss) and g)
+marked-and : {K : Kinds} (s : List ℕ) (n i k at m : ℕ) (r : Read) (g : ℕ → Rows) → (m ≡ 10 → ⊥) → Reach n i (token {A = Detail} (cond (eqb (getD s at 0) m) r Read.Miss))
+    → (midLine s (at + 1) ≡ 1 → (j : ℕ) → i ≤ j → j ≤ n → FitsFrom K s k (g j)) → FitsFrom K s k (token (cond (eqb (getD s at 0) m) r Read.Miss) and g)
 unfolding _and_ token
-marked-and s n i k at m r g h reach f = go (eqb (getD s at 0) m) refl reach
+marked-and {K = K} s n i k at m r g h reach f = go (eqb (getD s at 0) m) refl reach
   where
-    go : (t : Bool) → eqb (getD s at 0) m ≡ t → Reach n i (token {A = Detail} (cond t r Read.Miss)) → Fits s k (token (cond t r Read.Miss) and g)
+    go : (t : Bool) → eqb (getD s at 0) m ≡ t → Reach n i (token {A = Detail} (cond t r Read.Miss)) → FitsFrom K s k (token (cond t r Read.Miss) and g)
     go true e reach = bare-and n i k (token r) g reach (token-bare r) (f (mid-line s at m (eqb-true (getD s at 0) m e) h))
     go false e reach = miss-fits k
 
-module _ (s : List ℕ) (n k at : ℕ) (f : ℕ → Rows) (u : midLine s (at + 1) ≡ 1 → (e : ℕ) → at + 1 ≤ e → e ≤ n → Fits s k (f e)) where
-  pub string-and : Reach n (at + 1) (string {A = Detail} s at) → Fits s k (string s at and f)
+module _ {K : Kinds} (s : List ℕ) (n k at : ℕ) (f : ℕ → Rows) (u : midLine s (at + 1) ≡ 1 → (e : ℕ) → at + 1 ≤ e → e ≤ n → FitsFrom K s k (f e)) where
+  pub string-and : Reach n (at + 1) (string {A = Detail} s at) → FitsFrom K s k (string s at and f)
   unfolding string stringAt
   string-and r = marked-and s n (at + 1) k at 34 _ f (λ z. omega arith) r u
 
-  pub tag-and : Reach n (at + 1) (tag {A = Detail} s at) → Fits s k (tag s at and f)
+  pub tag-and : Reach n (at + 1) (tag {A = Detail} s at) → FitsFrom K s k (tag s at and f)
   unfolding tag markedAt
   tag-and r = marked-and s n (at + 1) k at 35 _ f (λ z. omega arith) r u
 
-  pub link-and : Reach n (at + 1) (link {A = Detail} s at) → Fits s k (link s at and f)
+  pub link-and : Reach n (at + 1) (link {A = Detail} s at) → FitsFrom K s k (link s at and f)
   unfolding link markedAt
   link-and r = marked-and s n (at + 1) k at 94 _ f (λ z. omega arith) r u

@@ -14,7 +14,7 @@ use Rattle.amount.specs.Expression.{expression}
 use Rattle.amount.specs.Amounts.{hardGap}
 use Rattle.amount.proofs.ExpressionEnds.{expression-reach}
 use Rattle.amount.proofs.AmountLaws.{hard-gap-reach}
-use Rattle.amount.proofs.RowCounts.{flagKind, Unflagged, placed-wide, Fits, to-fits, fits-from, must-fits, then-rows, then-fits, and-fits, maybe-fits, many-fits, must-bare, bare-and, account-bare, currency-bare, byte-bare}
+use Rattle.amount.proofs.RowCounts.{unflagged, Of, placed-wide, Fits, to-fits, fits-from, must-fits, then-rows, then-fits, and-fits, maybe-fits, many-fits, must-bare, bare-and, account-bare, currency-bare, byte-bare}
 use Rattle.amount.proofs.AmountFew.{hard-gap-bare}
 use Rattle.posting.specs.Costs.{comma}
 use Rattle.posting.specs.Metadata.{quoted}
@@ -38,7 +38,7 @@ module _ (s : List ℕ) where
       to-fits at e _ (omega arith))
 
   -- a string whose row is a span
-  pub text-fits : (k at : ℕ) → Unflagged k → Fits s at (quoted (span k) s at)
+  pub text-fits : (k at : ℕ) → Of unflagged k → Fits s at (quoted (span k) s at)
   text-fits k at h = quoted-fits s (span k) at at (λ m e p. omega arith) (omega arith)
 
   pub hard-string-fits : (at : ℕ) → Fits s at (hardString s at)
@@ -63,7 +63,7 @@ module _ (s : List ℕ) where
       then-rows _ N e e a (maybe e (tolerance s e)) _ (optional-reach N e _ q₃ (tolerance-reach s e q₃)) (maybe-fits e _ (tolerance-fits e q₃)) (λ t ts p₄ q₄ r₄.
       hard-gap-and a t _ q₄ (λ c p₅ q₅.
       bare-and N (c + 1) a (must c (currency s c)) _ (must-reach N (c + 1) c _ (currency-reach s c)) (must-bare c _ (currency-bare s c)) (λ d p₆ q₆.
-      to-fits a d _ ((omega arith, omega arith, omega arith, placed-wide (suc flagKind) (suc flagKind) s e t g d ts (omega arith) (omega arith) (omega arith) r₄ .0), omega arith)))))))
+      to-fits a d _ ((omega arith, omega arith, omega arith, placed-wide unflagged unflagged s e t g d ts (omega arith) (omega arith) (omega arith) r₄ .0), omega arith)))))))
 
   pub one-currency-fits : (at : ℕ) → Fits s at (oneCurrency s at)
   unfolding oneCurrency

@@ -22,7 +22,8 @@ use Rattle.recovery.proofs.CallLaws.{recovered-is}
 use Rattle.edit.specs.Edits.{isBlock, isNew, edited, grows, editing, editRows}
 use Rattle.edit.specs.Afresh.{Edit, RowsOf, AfreshCall, AllAfresh}
 use Rattle.edit.proofs.BlockTests.{block-bounds}
-use Rattle.edit.proofs.RowBytes.{wrapped, rows-front}
+use Rattle.row.proofs.ReadBack.{wrapped}
+use Rattle.edit.proofs.RowBytes.{rows-front}
 use Rattle.edit.proofs.EditedRows.{edit-bytes, rows-are}
 
 -- the length of the new ledger

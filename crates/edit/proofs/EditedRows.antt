@@ -32,7 +32,8 @@ use Rattle.edit.specs.Edits.{isNew, edited, fieldLimit, distance, shift,
 use Rattle.edit.specs.Afresh.{Edit, editedRows, Afresh, BeforeStay}
 use Rattle.edit.proofs.BlockTests.{or-cases, block-starts, block-ends, block-bounds}
 use Rattle.edit.proofs.MoveLaws.{moveAll, recover-all, Joined, joined-rows}
-use Rattle.edit.proofs.RowBytes.{wrapped, rows-in, all-wrapped, all-shifted}
+use Rattle.row.proofs.ReadBack.{wrapped}
+use Rattle.edit.proofs.RowBytes.{rows-in, all-wrapped, all-shifted}
 use Rattle.edit.proofs.SuchLaws.{each-append, each-map, such-append, such-all, such-none, such-wrapped}
 
 -- ---- a row of a text that ends in a line feed starts before its end

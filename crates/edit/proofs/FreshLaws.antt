@@ -23,7 +23,8 @@ use Rattle.edit.specs.Edits.{before}
 use Rattle.edit.specs.declared.moves.By.{By}
 use Rattle.edit.specs.steps.Moving.{Small, shiftBy, movedIn, by, Fresh}
 use Rattle.edit.proofs.MoveLaws.{moveAll, recover-all}
-use Rattle.edit.proofs.RowBytes.{wrapped, row-in, all-shifted}
+use Rattle.row.proofs.ReadBack.{wrapped, row-in}
+use Rattle.edit.proofs.RowBytes.{all-shifted}
 
 module _ (y : List ℕ) (h : length y ≤ sizeLimit) where
   abbrev rs : List Row

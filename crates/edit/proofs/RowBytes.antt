@@ -15,6 +15,7 @@ use Rattle.row.specs.Row.{width, rowBytes, rowsBytes, rowIn, rowsIn}
 use Rattle.row.specs.Details.{spanned}
 use Rattle.row.proofs.FieldLaws.{length-le, un-le, le-un}
 use Rattle.row.proofs.PourLaws.{length-rowBytes}
+use Rattle.row.proofs.ReadBack.{wrapped, row-in}
 use Rattle.entry.proofs.EntryLines.{Each, OnLine}
 use Rattle.edit.specs.Edits.{fieldLimit, moveOn, shift}
 use Rattle.edit.specs.Afresh.{KeepsBytes}
@@ -23,23 +24,7 @@ use Rattle.edit.proofs.MoveLaws.{moveAll}
 both : {x y v w : List ℕ} → x ≡ y → v ≡ w → x ++ v ≡ y ++ w
 both {x} {y} {v} {w} g h = ap (λ (z : List ℕ). z ++ v) g ∙ ap (λ (z : List ℕ). y ++ z) h
 
--- ---- a row as its bytes say
-
-unfoldable pub wrapped : Row → Row
-wrapped r =
-    record {
-      kind = un (le 4 (r .kind));
-      start = un (le 4 (r .start));
-      end = un (le 4 (r .end));
-      line = un (le 4 (r .line));
-      p = un (le 4 (r .p));
-      q = un (le 4 (r .q));
-      bits = un (le 8 (r .bits));
-    }
-
-pub row-in : (r : Row) (b : List ℕ) → rowIn (rowBytes r ++ b) ≡ wrapped r
-unfolding rowIn rowBytes wrapped
-row-in r b = refl
+-- ---- rows as their bytes say
 
 -- rows at the front of a table
 pub rows-front : (rs : List Row) (b : List ℕ) → rowsIn (length rs) (rowsBytes rs ++ b) ≡ map wrapped rs

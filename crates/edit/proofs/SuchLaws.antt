@@ -6,7 +6,8 @@ use mathlib.Core.List.{List, [], _∷_, _++_, map}
 use Rattle.row.specs.declared.table.Row.{Row}
 use Rattle.entry.proofs.EntryLines.{Each}
 use Rattle.edit.specs.Edits.{fieldLimit, such}
-use Rattle.edit.proofs.RowBytes.{wrapped, low-field}
+use Rattle.row.proofs.ReadBack.{wrapped}
+use Rattle.edit.proofs.RowBytes.{low-field}
 
 pub each-append : {A : Type 0} (P : A → Type 0) (xs ys : List A) → Each P xs → Each P ys → Each P (xs ++ ys)
 each-append P [] ys h k = k

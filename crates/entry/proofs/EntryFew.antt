@@ -10,7 +10,7 @@ use Rattle.text.specs.Leaves.{lineEnd, word}
 use Rattle.text.proofs.Joins.{Reach}
 use Rattle.text.proofs.TokenEnds.{line-reach, tag-reach, word-reach}
 use Rattle.amount.specs.Details.{Rows}
-use Rattle.amount.proofs.RowCounts.{Fits, to-fits, fits-from, must-fits, and-fits, bare-and, word-bare, tag-and}
+use Rattle.amount.proofs.RowCounts.{Fits, to-fits, fits-from, fits-wide, must-fits, and-fits, bare-and, word-bare, tag-and}
 use Rattle.posting.specs.Metadata.{quoted}
 use Rattle.posting.proofs.PostingEnds.{quoted-reach}
 use Rattle.posting.proofs.PostingFew.{line-fits, gap-and, metadata-fits}
@@ -38,7 +38,7 @@ module _ (s : List ℕ) where
       hard-gap-and s at e _ q₁ (λ g p₂ q₂.
       fits-from g at _ (omega arith)
       (and-fits N (g + 1) g (content s g) _ (r g) (u g) (λ m p₃ q₃.
-      and-fits N m m (lineEnd s m) _ (line-reach s m q₃) (line-fits s m q₃) (λ l p₄ q₄. metadata-fits s l q₄)))))
+      and-fits N m m (lineEnd s m) _ (line-reach s m q₃) (line-fits s m q₃) (λ l p₄ q₄. fits-wide _ l _ (omega arith) (metadata-fits s l q₄))))))
 
   -- the rows of these come after the entry's first byte, which is left for the entry's own row
   pub option-fits : (at : ℕ) → at ≤ N → Fits s (at + 1) (option s at)

@@ -8,7 +8,7 @@ use mathlib.Core.List.{List, [], _∷_, map}
 use lib.ListN.{length, take}
 use lib.Seq.{length-take-le, getD-take}
 use Rattle.amount.specs.declared.detail.Detail.{Detail}
-use Rattle.amount.proofs.RowCounts.{refusalKind, flagKind, midLine, Rising}
+use Rattle.amount.proofs.RowCounts.{refusalKind, anyKinds, midLine, Rising}
 use Rattle.row.specs.declared.table.Row.{Row}
 use Rattle.row.specs.Row.{rowOf, feeds}
 use Rattle.entry.specs.Entry.{detailRow, rowsOf, got, entryOf}
@@ -29,7 +29,7 @@ pub record OnLine (top a l : ℕ) (s : List ℕ) (r : Row) : Type 0 where
   pub ends : r .end ≤ a + length s
   pub kind : r .kind < top
 
-rising-le : (s : List ℕ) (k j : ℕ) (ds : List Detail) → Rising flagKind s k j ds → k ≤ j
+rising-le : (s : List ℕ) (k j : ℕ) (ds : List Detail) → Rising anyKinds s k j ds → k ≤ j
 rising-le s k j [] r = r
 rising-le s k j (d ∷ ds) r = omega (arith, r .0, rising-le s (d .start) j ds (r .3))
 
@@ -39,7 +39,7 @@ unfolding midLine
 mid-taken n zero s h = refl
 mid-taken n (suc i) s h = let z : suc i - 1 ≡ i = omega arith in rw (z, getD-take n s i 0 (omega arith))
 
-details-lines : (s : List ℕ) (n k : ℕ) (ds : List Detail) → n ≤ length s → Rising flagKind s k n ds → Each (OnLine refusalKind 0 0 (take n s)) (map (detailRow (take n s)) ds)
+details-lines : (s : List ℕ) (n k : ℕ) (ds : List Detail) → n ≤ length s → Rising anyKinds s k n ds → Each (OnLine refusalKind 0 0 (take n s)) (map (detailRow (take n s)) ds)
 unfolding detailRow rowOf
 details-lines s n k [] h r = tt
 details-lines s n k (d ∷ ds) h r =

@@ -1,5 +1,5 @@
 -- Rules 1 and 4: which details an entry has, by its kind. They stand in order of start within its bytes, and are no more than these.
-use Prim.Native.Nat.{ℕ, suc, _+_, _*_, _≤_, _<_}
+use Prim.Native.Nat.{ℕ, _+_, _*_, _≤_, _<_}
 use Prim.Native.String.{String}
 use native.Mathlib.Omega.{arith}
 use mathlib.Core.Path.{_≡_, refl, sym, _∙_, ap, subst}
@@ -26,7 +26,7 @@ use Rattle.amount.specs.Details.{Rows}
 use Rattle.row.specs.Details.{spanned}
 use Rattle.amount.specs.Amounts.{hardGap, hardCurrency, priceOf}
 use Rattle.amount.proofs.AmountLaws.{hard-gap-reach, hard-currency-reach, price-of-reach}
-use Rattle.amount.proofs.RowCounts.{flagKind, Placed, placed-wide, Fits, fits-from}
+use Rattle.amount.proofs.RowCounts.{anyKinds, unflagged, Placed, placed-wide, Fits, fits-from}
 use Rattle.amount.proofs.AmountFew.{hard-currency-fits, price-of-fits}
 use Rattle.row.specs.declared.table.Row.{Row}
 use Rattle.content.specs.Contents.{hardAccount, balanceOf, openOf, padOf, eventOf}
@@ -36,18 +36,26 @@ use Rattle.entry.specs.Entry.{rowsOf, got, entryOf}
 use Rattle.content.proofs.ContentEnds.{hard-account-reach, balance-of-reach, open-of-reach, pad-of-reach, event-of-reach}
 use Rattle.entry.proofs.EntryForms.{entry-form}
 use Rattle.entry.proofs.EntryFew.{keyword-fits, option-fits, include-fits, tagged-fits}
+use Rattle.transaction.specs.Transaction.{transaction}
 use Rattle.transaction.proofs.Openings.{Opened, Opens, transaction-opens, opened-placed}
 use Rattle.content.proofs.ContentFew.{hard-account-fits, balance-of-fits, open-of-fits, pad-of-fits, event-of-fits}
+
+-- a transaction: its date, and what stands behind it and its gap
+pub record Transacted (s : List ℕ) (n : ℕ) (f : Form) : Type 0 where
+  pub dated : date s 0 ≡ To 10 (f .date)
+  pub inside : blanks s 10 ≤ length s
+  pub reads : transaction s (blanks s 10) ≡ To n (f .details)
+  pub opened : Opened s (blanks s 10) n (f .details)
 
 -- what the details of an entry that ends at n are
 pub data Told (s : List ℕ) (n : ℕ) : Form → Type 0 where
   -- a blank entry has none
   line : (f : Form) → f .kind ≡ 1 → f .details ≡ [] → 1 ≤ n → Told s n f
   -- a transaction's flag stands behind the date and its gap
-  txn : (f : Form) → f .kind ≡ 6 → 1 ≤ blanks s 10 → Opened s (blanks s 10) n (f .details) → Told s n f
+  txn : (f : Form) → f .kind ≡ 6 → 1 ≤ blanks s 10 → Transacted s n f → Told s n f
   -- no other directive has a flag, and neither has an option, include, pushtag or poptag, which starts with a small letter
-  keyworded : (f : Form) → 7 ≤ f .kind → f .kind ≤ 13 → Placed (suc flagKind) s 1 n (f .details) → Told s n f
-  worded : (f : Form) → 2 ≤ f .kind → f .kind ≤ 5 → isSmall (getD s 0 0) ≡ true → Placed (suc flagKind) s 1 n (f .details) → Told s n f
+  keyworded : (f : Form) → 7 ≤ f .kind → f .kind ≤ 13 → Placed unflagged s 1 n (f .details) → Told s n f
+  worded : (f : Form) → 2 ≤ f .kind → f .kind ≤ 5 → isSmall (getD s 0 0) ≡ true → Placed unflagged s 1 n (f .details) → Told s n f
 
 digit-not-small : (b : ℕ) → isDigit b ≡ true → isSmall b ≡ true → ⊥
 unfolding isDigit isSmall
@@ -97,16 +105,18 @@ module _ (s : List ℕ) where
       go true e r = word-tells k _ h i (ap isSmall (head-is s e) ∙ m) r
       go false e r = tt
 
-  txn-tells : (d g : ℕ) (a : Rows) → g ≡ blanks s 10 → 1 ≤ g → Opens s g a → Tells s (asEntry 6 d a)
+  txn-tells : (d g : ℕ) (a : Rows) → date s 0 ≡ To 10 d → g ≡ blanks s 10 → 1 ≤ g → g ≤ length s → transaction s g ≡ a → Opens s g a → Tells s (asEntry 6 d a)
   unfolding asEntry
-  txn-tells d g (To n rs) e h o = txn _ refl (omega (arith, e)) (subst (λ i. Opened s i n rs) e o)
-  txn-tells d g Miss e h o = tt
-  txn-tells d g (Hard m p) e h o = tt
+  txn-tells d g (To n rs) w e h l q o =
+      txn _ refl (omega (arith, e))
+      (record { dated = w; inside = omega (arith, e); reads = ap (transaction s) (sym e) ∙ q; opened = subst (λ i. Opened s i n rs) e o })
+  txn-tells d g Miss w e h l q o = tt
+  txn-tells d g (Hard m p) w e h l q o = tt
 
-  dateless-tells : (d g : ℕ) → g ≡ blanks s 10 → 1 ≤ g → g ≤ length s → Tells s (dateless d s g)
+  dateless-tells : (d g : ℕ) → date s 0 ≡ To 10 d → g ≡ blanks s 10 → 1 ≤ g → g ≤ length s → Tells s (dateless d s g)
   unfolding dateless
-  dateless-tells d g e i h =
-      else-tells _ _ (txn-tells d g _ e i (transaction-opens s g h))
+  dateless-tells d g w e i h =
+      else-tells _ _ (txn-tells d g _ w e i h refl (transaction-opens s g h))
       (else-tells _ _ (key 7 "price" priceOf (omega arith) (omega arith) (price-of-reach s) (price-of-fits s))
       (else-tells _ _ (key 8 "balance" balanceOf (omega arith) (omega arith) (balance-of-reach s) (balance-of-fits s))
       (else-tells _ _ (key 9 "open" openOf (omega arith) (omega arith) (open-of-reach s) (open-of-fits s))
@@ -145,7 +155,7 @@ module _ (s : List ℕ) where
   directive-tells =
       then-tells (length s) 10 (date s 0) _ (date-reach s 0 (omega arith)) (λ e d q p₁ q₁.
       then-tells (length s) (e + 1) (hardGap s e) _ (hard-gap-reach s e q₁) (λ g x z p₂ q₂.
-      dateless-tells d g (gap-blanks e g x z ∙ ap (blanks s) (date-ten e d q)) (omega arith) q₂))
+      dateless-tells d g (q ∙ ap (λ (i : ℕ). To i d) (date-ten e d q)) (gap-blanks e g x z ∙ ap (blanks s) (date-ten e d q)) (omega arith) q₂))
 
   blank-tells : Tells s (blank s)
   unfolding blank asEntry
@@ -168,14 +178,24 @@ module _ (s : List ℕ) where
   form-told n f e = subst (Tells s) e form-tells
 
   -- so they stand in order, a transaction's flag among them
-  told-placed : (n : ℕ) {f : Form} → Told s n f → Placed flagKind s 1 n (f .details)
+  told-placed : (n : ℕ) {f : Form} → Told s n f → Placed anyKinds s 1 n (f .details)
   told-placed n (line f k d h) = rw d (omega arith)
-  told-placed n (txn f k h o) = placed-wide flagKind flagKind s (blanks s 10) n 1 n (f .details) (omega arith) h (omega arith) (opened-placed s (blanks s 10) n (f .details) o)
-  told-placed n (keyworded f k l p) = placed-wide (suc flagKind) flagKind s 1 n 1 n (f .details) (omega arith) (omega arith) (omega arith) p
-  told-placed n (worded f k l m p) = placed-wide (suc flagKind) flagKind s 1 n 1 n (f .details) (omega arith) (omega arith) (omega arith) p
+  told-placed n (txn f k h t) =
+      placed-wide anyKinds anyKinds s (blanks s 10) n 1 n (f .details) (omega arith) h (omega arith) (opened-placed s (blanks s 10) n (f .details) (t .opened))
+  told-placed n (keyworded f k l p) = placed-wide unflagged anyKinds s 1 n 1 n (f .details) (omega arith) (omega arith) (omega arith) p
+  told-placed n (worded f k l m p) = placed-wide unflagged anyKinds s 1 n 1 n (f .details) (omega arith) (omega arith) (omega arith) p
 
-  pub form-placed : (n : ℕ) (f : Form) → formOf s ≡ To n f → Placed flagKind s 1 n (f .details)
+  pub form-placed : (n : ℕ) (f : Form) → formOf s ≡ To n f → Placed anyKinds s 1 n (f .details)
   form-placed n f e = told-placed n (form-told n f e)
+
+  told-transacted : (n : ℕ) {f : Form} → Told s n f → f .kind ≡ 6 → Transacted s n f
+  told-transacted n (line f k d h) e = absurd (omega (arith, k, e))
+  told-transacted n (txn f k h t) e = t
+  told-transacted n (keyworded f k l p) e = absurd (omega (arith, e))
+  told-transacted n (worded f k l m p) e = absurd (omega (arith, e))
+
+  pub form-transacted : (n : ℕ) (f : Form) → formOf s ≡ To n f → f .kind ≡ 6 → Transacted s n f
+  form-transacted n f e k = told-transacted n (form-told n f e) k
 
   -- ---- kinds
 

@@ -1,5 +1,5 @@
 -- Strict reading's judgement: over lists of rows, of rows further on, and of the rows of an entry.
-use Prim.Native.Nat.{ℕ, suc, _+_, _-_, _≤_}
+use Prim.Native.Nat.{ℕ, _+_, _-_, _≤_}
 use native.Mathlib.Omega.{arith}
 use mathlib.Core.Path.{_≡_, refl, ap}
 use mathlib.Core.Bool.{Bool, true, false, cond, not, _||_}
@@ -14,7 +14,7 @@ use Rattle.text.proofs.TestLaws.{and-right}
 use Rattle.amount.specs.declared.detail.Detail.{Detail}
 use Rattle.amount.specs.Details.{span}
 use Rattle.amount.specs.Literal.{between}
-use Rattle.amount.proofs.RowCounts.{flagKind, Rising}
+use Rattle.amount.proofs.RowCounts.{flagKind, unflagged, Rising}
 use Rattle.row.specs.declared.table.Row.{Row}
 use Rattle.row.specs.Row.{rowOf}
 use Rattle.posting.specs.Postings.{isFlag}
@@ -63,7 +63,7 @@ unfolding objection
 quiet-row s r h g = rw (ne-eqb (r .kind) 1 h, ne-eqb (r .kind) flagKind g)
 
 -- details of which none is a flag's
-quiet-rows : (a : ℕ) (s u : List ℕ) (k j : ℕ) (ds : List Detail) (w : Reading) → Rising (suc flagKind) s k j ds → badFrom a s (map (detailRow u) ds) w ≡ w
+quiet-rows : (a : ℕ) (s u : List ℕ) (k j : ℕ) (ds : List Detail) (w : Reading) → Rising unflagged s k j ds → badFrom a s (map (detailRow u) ds) w ≡ w
 unfolding badFrom detailRow rowOf
 quiet-rows a s u k j [] w h = refl
 quiet-rows a s u k j (d ∷ ds) w h =
@@ -82,7 +82,7 @@ module _ (a : ℕ) (s : List ℕ) (n : ℕ) (f : Form) (w : Reading) where
       go true = refl
       go false = refl
 
-  other-bad : (f .kind ≡ 1 → ⊥) → (f .kind ≡ 6 → ⊥) → f .kind ≤ 13 → Rising (suc flagKind) s 1 n (f .details)
+  other-bad : (f .kind ≡ 1 → ⊥) → (f .kind ≡ 6 → ⊥) → f .kind ≤ 13 → Rising unflagged s 1 n (f .details)
       → badFrom a s (rowsOf s n f) w ≡ heldBy a (entryObjection (f .kind) n s) w
   unfolding badFrom rowsOf rowOf objection entryObjection
   other-bad h k l q =
@@ -107,7 +107,7 @@ small-passes b e = rw e (go (eqb b 42 || eqb b 33))
     go true = refl
     go false = refl
 
-module _ (a : ℕ) (s u : List ℕ) (k j : ℕ) (others : List Detail) (w : Reading) (q : Rising (suc flagKind) s k j others) where
+module _ (a : ℕ) (s u : List ℕ) (k j : ℕ) (others : List Detail) (w : Reading) (q : Rising unflagged s k j others) where
   abbrev G : ℕ
   G = blanks s 10
 
@@ -139,7 +139,7 @@ module _ (a : ℕ) (s : List ℕ) (n : ℕ) (w : Reading) where
 
   told-bad : {f : Form} → Told s n f → badFrom a s (rowsOf s n f) w ≡ heldBy a (entryObjection (f .kind) n s) w
   told-bad (line f k d h) = line-bad a s n f w k d
-  told-bad (txn f k h o) = txn-bad f k o
+  told-bad (txn f k h t) = txn-bad f k (t .opened)
   told-bad (keyworded f k l p) = other-bad a s n f w (λ z. omega arith) (λ z. omega arith) l (p .0)
   told-bad (worded f k l m p) = other-bad a s n f w (λ z. omega arith) (λ z. omega arith) (omega arith) (p .0)
 

@@ -5,9 +5,9 @@ use native.Mathlib.Omega.{arith}
 use mathlib.Core.Path.{_≡_, refl, sym, _∙_, ap, subst}
 use mathlib.Core.Bool.{Bool, true, false, cond}
 use mathlib.Core.List.{List, [], _∷_, _++_, map, append-nil}
-use borrow.Author.Tests.{le-leb, lt-leb, lt-ltb}
+use borrow.Author.Tests.{le-leb, lt-leb, leb-true, ltb-false}
 use borrow.Rule.Slice.PartMut.{putMid}
-use lib.Dec.{eqb}
+use lib.Dec.{eqb, leb, ltb}
 use lib.ListN.{length, length-map, take, drop, length-take, drop-of-length-le}
 use Rattle.text.specs.Permitted.{clean}
 use Rattle.amount.proofs.RowCounts.{refusalKind}
@@ -18,10 +18,10 @@ use Rattle.ledger.specs.Strict.{objection}
 use Rattle.row.specs.steps.Writing.{Poured}
 use Rattle.row.specs.steps.Sweep.{linesSet}
 use Rattle.row.proofs.PourLaws.{pour-all, pour-append, pourAt-full, pourAt-zero, length-pour}
-use Rattle.ledger.specs.Plain.{move, moved, Reading, accepted, denied, partAt, plain}
+use Rattle.ledger.specs.Plain.{move, moved, Reading, accepted, denied, readFrom, partAt, part, plain}
 use Rattle.ledger.specs.Strict.{firstRefused, judged, readingBy}
 use Rattle.ledger.specs.Answers.{answer, left}
-use Rattle.ledger.specs.steps.Scan.{withLine, movedReading, scanned, scannedBy, scanAnswer, ScanPoured}
+use Rattle.ledger.specs.steps.Scan.{withLine, movedReading, scanned, partAtBy, scanAnswer, ScanPoured}
 use Rattle.ledger.specs.declared.read.Answer.{Answer}
 use Rattle.ledger.specs.declared.scan.Scan.{Scan}
 use Rattle.ledger.specs.declared.scan.Profile.{Profile}
@@ -29,12 +29,6 @@ use Rattle.ledger.specs.declared.scan.Profile.the-variants.{Plain, Stric
 use Rattle.ledger.proofs.PlainLaws.{part-kept}
 use Rattle.ledger.proofs.PartLaws.{part-scanned}
 use Rattle.ledger.proofs.LinedRows.{lines-left}
-
--- ---- a ledger whose bytes may all stand
-
-plain-scanned : (s : List ℕ) → length s ≤ 16777216 → length s ≤ clean s → plain s ≡ scanned 0 s
-unfolding plain
-plain-scanned s l c = rw (le-leb (length s) 16777216 l) (part-scanned 0 s c)
 
 -- at place 0 nothing is moved
 pub rows-stay : (rs : List Row) → moved 0 0 rs ≡ rs
@@ -49,10 +43,6 @@ rows-stay (r ∷ rs) = rw (stays (spanned (r .kind)) (r .p), stays (spanned (r .
 moved-none : (x : Reading) → movedReading 0 0 x ≡ x
 moved-none (accepted rs) = ap accepted (rows-stay rs)
 moved-none (denied n p) = ap (denied n) (zero-add p)
-
-by-scanned : (k : Profile) (s : List ℕ) → length s ≤ 16777216 → length s ≤ clean s → readingBy k s ≡ scannedBy k 0 s
-by-scanned Plain s l c = plain-scanned s l c
-by-scanned Strict s l c = ap (judged s) (plain-scanned s l c) ∙ sym (moved-none (judged s (scanned 0 s)))
 
 -- what is accepted in a profile has plain reading's rows
 bad-rows : (s : List ℕ) (rs : List Row) (w : Reading) (xs : List Row) → firstRefused s rs w ≡ accepted xs → w ≡ accepted xs
@@ -69,9 +59,28 @@ unfolding judged
 judged-rows s (accepted xs) rs e = bad-rows s xs (accepted xs) rs e
 judged-rows s (denied n p) rs e = e
 
-by-rows : (k : Profile) (s : List ℕ) (rs : List Row) → scannedBy k 0 s ≡ accepted rs → scanned 0 s ≡ accepted rs
+by-rows : (k : Profile) (s : List ℕ) (rs : List Row) → readingBy k s ≡ accepted rs → plain s ≡ accepted rs
 by-rows Plain s rs e = e
-by-rows Strict s rs e = judged-rows s (scanned 0 s) rs (sym (moved-none (judged s (scanned 0 s))) ∙ e)
+by-rows Strict s rs e = judged-rows s (plain s) rs e
+
+-- ---- a ledger that plain reading accepts: its size, its bytes and its entries
+
+module _ (s : List ℕ) (rs : List Row) where
+  bytes-stand : (b : Bool) → ltb (clean s) (length s) ≡ b → cond b (denied 2 (0 + clean s)) (readFrom (length s) 0 1 s) ≡ accepted rs
+      → (length s ≤ clean s) × (readFrom (length s) 0 1 s ≡ accepted rs)
+  bytes-stand true w e = absurd (let z : _≡_ {A = ℕ} 0 1 = cc in omega arith)
+  bytes-stand false w e = (ltb-false (clean s) (length s) w, e)
+
+  size-stands : (b : Bool) → leb (length s) 16777216 ≡ b → cond b (part s) (denied 1 0) ≡ accepted rs → (length s ≤ 16777216) × (part s ≡ accepted rs)
+  size-stands true w e = (leb-true (length s) 16777216 w, e)
+  size-stands false w e = absurd (let z : _≡_ {A = ℕ} 0 1 = cc in omega arith)
+
+  pub plain-reads : plain s ≡ accepted rs → (length s ≤ 16777216) × (length s ≤ clean s) × (scanned 0 s ≡ accepted rs)
+  unfolding plain partAt scanned
+  plain-reads e =
+      let z = size-stands (leb (length s) 16777216) refl e in
+      let y = bytes-stand (ltb (clean s) (length s)) refl (z .1) in
+      (z .0, y .0, y .1)
 
 -- ---- rows into the part of a table that they fill: none fits behind them
 
@@ -86,54 +95,65 @@ filled n rs t v e h (xs, p) =
 
 -- ---- the second pass: the first answered that n rows are wanted
 
-module _ (k : Profile) (s : List ℕ) (n : ℕ) (l : length s ≤ 16777216) (c : length s ≤ clean s) (w : Scan.Whole n ≡ scanAnswer (scannedBy k 0 s)) (t : List ℕ) where
-  was-whole : (rs : List Row) × (scannedBy k 0 s ≡ accepted rs) × (n ≡ length rs)
-  unfolding scanAnswer
-  was-whole = go (scannedBy k 0 s) refl w
-    where
-      go : (x : Reading) → scannedBy k 0 s ≡ x → Scan.Whole n ≡ scanAnswer x → (rs : List Row) × (scannedBy k 0 s ≡ accepted rs) × (n ≡ length rs)
-      go (accepted rs) e q = (rs, e, cc)
-      go (denied i p) e q = absurd (let z : _≡_ {A = ℕ} 0 1 = cc in omega arith)
+-- what a verdict says of a reading
+pub whole-reads : (n : ℕ) (x : Reading) → Scan.Whole n ≡ scanAnswer x → (rs : List Row) × (x ≡ accepted rs) × (n ≡ length rs)
+unfolding scanAnswer
+whole-reads n (accepted rs) q = (rs, refl, cc)
+whole-reads n (denied i p) q = absurd (let z : _≡_ {A = ℕ} 0 1 = cc in omega arith)
 
-  plain-whole : readingBy k s ≡ accepted (was-whole .0)
-  plain-whole = by-scanned k s l c ∙ was-whole .1
+pub stopped-denies : (n p : ℕ) (x : Reading) → Scan.Stopped n p ≡ scanAnswer x → x ≡ denied n p
+unfolding scanAnswer
+stopped-denies n p (accepted rs) q = absurd (let y : _≡_ {A = ℕ} 0 1 = cc in omega arith)
+stopped-denies n p (denied j o) q = cc
 
-  rows-whole : scanned 0 s ≡ accepted (was-whole .0)
-  rows-whole = by-rows k s (was-whole .0) (was-whole .1)
+module _ (k : Profile) (s : List ℕ) (n : ℕ) (w : Scan.Whole n ≡ scanAnswer (readingBy k s)) where
+  was-whole : (rs : List Row) × (readingBy k s ≡ accepted rs) × (n ≡ length rs)
+  was-whole = whole-reads n (readingBy k s) w
+
+  rows-whole : (length s ≤ 16777216) × (length s ≤ clean s) × (scanned 0 s ≡ accepted (was-whole .0))
+  rows-whole = plain-reads s (was-whole .0) (by-rows k s (was-whole .0) (was-whole .1))
+
+  -- the second pass may be made
+  pub whole-small : 0 + length s ≤ 16777216
+  whole-small = omega (arith, rows-whole)
+
+module _ (k : Profile) (s : List ℕ) (n : ℕ) (w : Scan.Whole n ≡ scanAnswer (readingBy k s)) (t : List ℕ) where
+  abbrev rows : (rs : List Row) × (readingBy k s ≡ accepted rs) × (n ≡ length rs)
+  rows = was-whole k s n w
 
   module _ (h : length t / 32 < n) where
-    short : length t / 32 < length (was-whole .0)
-    short = omega (arith, was-whole .2)
+    short : length t / 32 < length (rows .0)
+    short = omega (arith, rows .2)
 
     pub written-full : (r : Answer) → r ≡ Answer.Refusal 9 0 n → r ≡ answer (readingBy k s) (length t / 32)
     unfolding answer
-    written-full r e = e ∙ ap (Answer.Refusal 9 0) (was-whole .2) ∙ rw (plain-whole, lt-leb (length (was-whole .0)) (length t / 32) short)
+    written-full r e = e ∙ ap (Answer.Refusal 9 0) (rows .2) ∙ rw (rows .1, lt-leb (length (rows .0)) (length t / 32) short)
 
     pub written-none : t ≡ left (readingBy k s) t
     unfolding left
-    written-none = rw (plain-whole, lt-leb (length (was-whole .0)) (length t / 32) short)
+    written-none = rw (rows .1, lt-leb (length (rows .0)) (length t / 32) short)
 
   module _ (h : n ≤ length t / 32) where
-    room : length (was-whole .0) ≤ length t / 32
-    room = omega (arith, was-whole .2)
+    room : length (rows .0) ≤ length t / 32
+    room = omega (arith, rows .2)
 
     pub written-rows : Answer.Rows n ≡ answer (readingBy k s) (length t / 32)
     unfolding answer
-    written-rows = ap Answer.Rows (was-whole .2) ∙ rw (plain-whole, le-leb (length (was-whole .0)) (length t / 32) room)
+    written-rows = ap Answer.Rows (rows .2) ∙ rw (rows .1, le-leb (length (rows .0)) (length t / 32) room)
 
     pub written-table : (v u : List ℕ) → ScanPoured (scanned 0 s) (take (n * 32 - 0) (drop 0 t)) v → u ≡ linesSet s n (putMid 0 (n * 32 - 0) t v) → u ≡ left (readingBy k s) t
     written-table v u p q =
-        let rs = was-whole .0 in
+        let rs = rows .0 in
         let z : n * 32 - 0 ≡ n * 32 = omega arith in
-        let y = subst (λ i. ScanPoured (accepted rs) (take i (drop 0 t)) v) z (subst (λ x. ScanPoured x (take (n * 32 - 0) (drop 0 t)) v) rows-whole p) in
+        let y = subst (λ i. ScanPoured (accepted rs) (take i (drop 0 t)) v) z (subst (λ x. ScanPoured x (take (n * 32 - 0) (drop 0 t)) v) (rows-whole k s n w .2) p) in
         q
         ∙ ap (λ i. linesSet s n (putMid 0 i t v)) z
-        ∙ ap (linesSet s n) (filled n (map (withLine 0) rs) t v (was-whole .2 ∙ sym (length-map rs (withLine 0))) h y)
-        ∙ ap (λ i. linesSet s i (pour (map (withLine 0) rs) t)) (was-whole .2)
-        ∙ lines-left refusalKind s rs t (part-kept s rs (part-scanned 0 s c ∙ rows-whole)) l room
-        ∙ ap (λ x. left x t) (sym plain-whole)
+        ∙ ap (linesSet s n) (filled n (map (withLine 0) rs) t v (rows .2 ∙ sym (length-map rs (withLine 0))) h y)
+        ∙ ap (λ i. linesSet s i (pour (map (withLine 0) rs) t)) (rows .2)
+        ∙ lines-left refusalKind s rs t (part-kept s rs (part-scanned 0 s (rows-whole k s n w .1) ∙ rows-whole k s n w .2)) (rows-whole k s n w .0) room
+        ∙ ap (λ x. left x t) (sym (rows .1))
 
-pub ruleset written-laws = (written-full, written-none, written-rows, written-table)
+pub ruleset written-laws = (whole-small, written-full, written-none, written-rows, written-table)
 
 -- ---- the refusals before it, for any room
 
@@ -153,51 +173,33 @@ unfolding judged
 stays-denied Plain s i p e = e
 stays-denied Strict s i p e = ap (judged s) e
 
-module _ (k : Profile) (s : List ℕ) (h : 16777216 < length s) where
-  plain-large : readingBy k s ≡ denied 1 0
-  unfolding plain
-  plain-large = stays-denied k s 1 0 (rw (lt-leb (length s) 16777216 h))
+-- ---- the verdict: of a ledger that is too large, and of one that is read
 
-  pub read-large : (r : Answer) (room : ℕ) → r ≡ Answer.Refusal 1 0 0 → r ≡ answer (readingBy k s) room
-  read-large r room q = q ∙ denied-answer k s 1 0 plain-large room
+pub verdict-large : (k : Profile) (s : List ℕ) → 16777216 < length s → Scan.Stopped 1 0 ≡ scanAnswer (readingBy k s)
+unfolding scanAnswer plain
+verdict-large k s h = rw (stays-denied k s 1 0 (rw (lt-leb (length s) 16777216 h)))
 
-  pub read-large-left : (t : List ℕ) → t ≡ left (readingBy k s) t
-  read-large-left = denied-left k s 1 0 plain-large
+pub verdict-part : (k : Profile) (s : List ℕ) (m : Scan) → length s ≤ 16777216 → m ≡ scanAnswer (partAtBy k 0 s) → m ≡ scanAnswer (readingBy k s)
+unfolding plain
+verdict-part Plain s m l q = rw (le-leb (length s) 16777216 l) q
+verdict-part Strict s m l q = rw (le-leb (length s) 16777216 l) (q ∙ ap scanAnswer (moved-none (judged s (part s))))
 
--- c is the place of the first byte that may not stand
-module _ (k : Profile) (s : List ℕ) (l : length s ≤ 16777216) (c : ℕ) (e : c ≡ clean s) where
-  module _ (h : c < length s) where
-    plain-byte : readingBy k s ≡ denied 2 c
-    unfolding plain partAt
-    plain-byte = stays-denied k s 2 c (rw (le-leb (length s) 16777216 l, ← e, lt-ltb c (length s) h, zero-add c))
+pub ruleset verdict-laws = (verdict-large, verdict-part)
 
-    pub read-byte : (r : Answer) (room : ℕ) → r ≡ Answer.Refusal 2 c 0 → r ≡ answer (readingBy k s) room
-    read-byte r room q = q ∙ denied-answer k s 2 c plain-byte room
+-- ---- a verdict v that is a refusal, or not
 
-    pub read-byte-left : (t : List ℕ) → t ≡ left (readingBy k s) t
-    read-byte-left = denied-left k s 2 c plain-byte
+module _ (k : Profile) (s : List ℕ) (v : Scan) (q : v ≡ scanAnswer (readingBy k s)) where
+  module _ (n p : ℕ) (i : v ≡ Scan.Stopped n p) where
+    was-denied : readingBy k s ≡ denied n p
+    was-denied = stopped-denies n p (readingBy k s) (sym i ∙ q)
 
-  module _ (h : length s ≤ c) (m : Scan) (q : m ≡ scanAnswer (scannedBy k 0 s)) where
-    module _ (n p : ℕ) (i : m ≡ Scan.Stopped n p) where
-      plain-stopped : readingBy k s ≡ denied n p
-      unfolding scanAnswer
-      plain-stopped = by-scanned k s l (subst (λ x. length s ≤ x) e h) ∙ go (scannedBy k 0 s) (sym i ∙ q)
-        where
-          go : (x : Reading) → Scan.Stopped n p ≡ scanAnswer x → x ≡ denied n p
-          go (accepted rs) z = absurd (let y : _≡_ {A = ℕ} 0 1 = cc in omega arith)
-          go (denied j o) z = cc
+    pub read-stopped : (r : Answer) (room : ℕ) → r ≡ Answer.Refusal n p 0 → r ≡ answer (readingBy k s) room
+    read-stopped r room z = z ∙ denied-answer k s n p was-denied room
 
-      pub read-stopped : (r : Answer) (room : ℕ) → r ≡ Answer.Refusal n p 0 → r ≡ answer (readingBy k s) room
-      read-stopped r room z = z ∙ denied-answer k s n p plain-stopped room
+    pub read-stopped-left : (t : List ℕ) → t ≡ left (readingBy k s) t
+    read-stopped-left = denied-left k s n p was-denied
 
-      pub read-stopped-left : (t : List ℕ) → t ≡ left (readingBy k s) t
-      read-stopped-left = denied-left k s n p plain-stopped
+  pub read-whole : (n : ℕ) → v ≡ Scan.Whole n → Scan.Whole n ≡ scanAnswer (readingBy k s)
+  read-whole n i = sym i ∙ q
 
--- what the second pass needs
-pub all-clean : (s : List ℕ) (c : ℕ) → c ≡ clean s → length s ≤ c → length s ≤ clean s
-all-clean s c e h = omega arith
-
-pub first-whole : (k : Profile) (s : List ℕ) (m : Scan) (n : ℕ) → m ≡ scanAnswer (scannedBy k 0 s) → m ≡ Scan.Whole n → Scan.Whole n ≡ scanAnswer (scannedBy k 0 s)
-first-whole k s m n q h = sym h ∙ q
-
-pub ruleset read-laws = (read-large, read-large-left, read-byte, read-byte-left, read-stopped, read-stopped-left, all-clean, first-whole)
+pub ruleset read-laws = (read-stopped, read-stopped-left, read-whole)

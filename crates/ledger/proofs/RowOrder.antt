@@ -5,7 +5,7 @@ use mathlib.Core.Path.{_≡_}
 use mathlib.Core.List.{List, [], _∷_, _++_, map}
 use lib.ListN.{take}
 use Rattle.amount.specs.declared.detail.Detail.{Detail}
-use Rattle.amount.proofs.RowCounts.{flagKind, Rising}
+use Rattle.amount.proofs.RowCounts.{anyKinds, Rising}
 use Rattle.row.specs.declared.table.Row.{Row}
 use Rattle.row.specs.Row.{rowOf}
 use Rattle.entry.specs.Entry.{detailRow, rowsOf, got, entryOf}
@@ -30,7 +30,7 @@ unfolding move
 rises-moved a l k j [] h = omega arith
 rises-moved a l k j (r ∷ rs) h = (omega (arith, h .0), rises-moved a l (r .start) j rs (h .1))
 
-details-rise : (s : List ℕ) (k j : ℕ) (u : List ℕ) (ds : List Detail) → Rising flagKind s k j ds → Rises k j (map (detailRow u) ds)
+details-rise : (s : List ℕ) (k j : ℕ) (u : List ℕ) (ds : List Detail) → Rising anyKinds s k j ds → Rises k j (map (detailRow u) ds)
 unfolding detailRow rowOf
 details-rise s k j u [] h = h
 details-rise s k j u (d ∷ ds) h = (h .0, details-rise s (d .start) j u ds (h .3))

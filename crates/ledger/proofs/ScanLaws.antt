@@ -34,7 +34,7 @@ pub rest-of : (s : List ℕ) (at : ℕ) → take (length s - at) (drop at s) ≡
 rest-of s at = take-all (length s - at) (drop at s) (rw length-drop (omega arith))
 
 -- the rows that are written are the entry's, moved and with no line
-rows-laid : (a l : ℕ) (s : List ℕ) (n : ℕ) (rs : List Row) → entryOf s ≡ got n rs → formRows a (formOf s) ≡ map (withLine 0) (moved a l rs)
+pub rows-laid : (a l : ℕ) (s : List ℕ) (n : ℕ) (rs : List Row) → entryOf s ≡ got n rs → formRows a (formOf s) ≡ map (withLine 0) (moved a l rs)
 unfolding formRows ownRow
 rows-laid a l s n rs e =
     let z = entry-form s n rs e in
@@ -53,7 +53,7 @@ read-on a s at l n rs h e =
     rw (i, drop-drop n at s) (read-bound f (length s - (at + n)) (a + (at + n)) m (drop (at + n) s) (rw length-drop (omega arith)) (rw length-drop (omega arith))) in
     ap (λ x. readFrom x (a + at) l (drop at s)) b ∙ read-got f (a + at) l (drop at s) n rs (rw length-drop (omega arith)) e ∙ ap (after (moved (a + at) l rs)) c
 
-read-stop : (a : ℕ) (s : List ℕ) (at l k p : ℕ) → at < length s → entryOf (drop at s) ≡ refuse k p
+pub read-stop : (a : ℕ) (s : List ℕ) (at l k p : ℕ) → at < length s → entryOf (drop at s) ≡ refuse k p
     → readFrom (length s - at) (a + at) l (drop at s) ≡ denied k (a + at + p)
 read-stop a s at l k p h e =
     let b : length s - at ≡ suc (length s - at - 1) = omega arith in

@@ -4,15 +4,13 @@ use crate::scan::Profile;
 use crate::scan::Scan;
 use row::lines;
 use row::table::WIDTH;
-use text::permitted;
 ghost use mathlib.Core.Path.{_≡_};
-ghost use Prim.Native.Nat.{_/_, _≤_};
+ghost use Prim.Native.Nat.{_/_};
 ghost use lib.ListN.{length};
-ghost use Rattle.text.specs.Permitted.{clean};
 ghost use Rattle.ledger.specs.Plain.{plain};
 ghost use Rattle.ledger.specs.Strict.{strict, readingBy};
 ghost use Rattle.ledger.specs.Answers.{answer, left};
-ghost use Rattle.ledger.specs.steps.Scan.{scannedBy, scanAnswer};
+ghost use Rattle.ledger.specs.steps.Scan.{scanAnswer};
 
 // A ledger's bytes at the most (refusal 1).
 pub const SIZE: usize = 16_777_216;
@@ -36,9 +34,20 @@ fn refusal(number: usize, place: usize, count: usize) -> Answer
     }
 }
 
+// The first pass: so many rows, or a refusal.
+pub fn verdict(ledger: &[u8], profile: Profile) -> Scan
+    ensures { λ r. ⌜ r ≡ scanAnswer (readingBy profile (now (ledger .entry))) ⌝ }
+{
+    if SIZE < ledger.len() {
+        return Scan::Stopped(1, 0);
+    }
+    let mut none = [0u8; 1];
+    scan::part(ledger, 0, &mut none, profile)
+}
+
 // The second pass, which writes: n rows, if there is room for them. It is lent the part of the table that they fill, so that no other byte changes.
 fn written(ledger: &[u8], table: &mut [u8], n: usize, profile: Profile) -> Answer
-    requires { ⌜ (length (now ledger) ≤ 16777216) × (length (now ledger) ≤ clean (now ledger)) × (Scan.Whole n ≡ scanAnswer (scannedBy profile 0 (now ledger))) ⌝ }
+    requires { ⌜ Scan.Whole n ≡ scanAnswer (readingBy profile (now ledger)) ⌝ }
     ensures answer { λ r. ⌜ r ≡ answer (readingBy profile (now (ledger .entry))) (length (now (table .entry)) / 32) ⌝ }
     ensures rows { λ _. ⌜ now (table .exit) ≡ left (readingBy profile (now (ledger .entry))) (now (table .entry)) ⌝ }
 {
@@ -56,16 +65,8 @@ fn read_by(ledger: &[u8], table: &mut [u8], profile: Profile) -> Answer
     ensures answer { λ r. ⌜ r ≡ answer (readingBy profile (now (ledger .entry))) (length (now (table .entry)) / 32) ⌝ }
     ensures rows { λ _. ⌜ now (table .exit) ≡ left (readingBy profile (now (ledger .entry))) (now (table .entry)) ⌝ }
 {
-    if SIZE < ledger.len() {
-        return refusal(1, 0, 0);
-    }
-    let c = permitted::clean_prefix(ledger);
-    if c < ledger.len() {
-        return refusal(2, c, 0);
-    }
-    let mut none = [0u8; 1];
-    let m = scan::entries(ledger, 0, &mut none, profile);
-    match m {
+    let v = verdict(ledger, profile);
+    match v {
         Scan::Stopped(number, place) => refusal(number, place, 0),
         Scan::Whole(n) => written(ledger, table, n, profile),
     }

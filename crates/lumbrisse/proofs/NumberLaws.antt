@@ -6,6 +6,7 @@ use mathlib.Core.List.{List}
 use Rattle.decimal.specs.Exact.{wholeOf, twosOf}
 use Rattle.decimal.specs.declared.Decimal.{Decimal}
 use Rattle.ledger.specs.declared.read.Answer.{Answer}
+use Rattle.totals.specs.declared.totals.Answer as totals
 use Rattle.access.specs.Spans.{goodSpan}
 use Rattle.access.specs.declared.written.Written.{Written}
 use Rattle.access.specs.declared.single.Evaluated as single
@@ -16,7 +17,7 @@ use Rattle.lumbrisse.specs.declared.reply.Reply.{Reply}
 use Rattle.lumbrisse.specs.declared.reply.Evaluated.{Evaluated}
 use Rattle.lumbrisse.specs.declared.reply.Handed.{Handed}
 use Rattle.lumbrisse.specs.declared.reply.Part.{Part}
-use Rattle.lumbrisse.specs.Numbers.{replied, replyOf, writtenReply, forceReply, evaluatedOf, partOf, handedBy, handedOf}
+use Rattle.lumbrisse.specs.Numbers.{replied, replyOf, totalsReply, writtenReply, forceReply, evaluatedOf, partOf, handedBy, handedOf}
 
 module _ (r : Reply) where
   module _ (a : Answer) where
@@ -27,6 +28,15 @@ module _ (r : Reply) where
     pub refusal-reply : (n p k : ℕ) → a ≡ Answer.Refusal n p k → r ≡ replied n p k → r ≡ replyOf a
     unfolding replyOf
     refusal-reply n p k e w = rw e w
+
+  module _ (a : totals.Answer) where
+    pub items-reply : (n : ℕ) → a ≡ totals.Answer.Items n → r ≡ replied 0 0 n → r ≡ totalsReply a
+    unfolding totalsReply
+    items-reply n e w = rw e w
+
+    pub no-items-reply : (n p k : ℕ) → a ≡ totals.Answer.Refusal n p k → r ≡ replied n p k → r ≡ totalsReply a
+    unfolding totalsReply
+    no-items-reply n p k e w = rw e w
 
   module _ (a : Written) where
     pub bytes-reply : (n : ℕ) → a ≡ Written.Bytes n → r ≡ replied 0 0 n → r ≡ writtenReply a
@@ -78,7 +88,7 @@ module _ (at : ℕ) (x : Step) (r : Handed) where
 
 pub ruleset handed-laws = (entry-handed, detail-handed, end-handed, refusal-handed)
 
-pub ruleset number-laws = (rows-reply, refusal-reply, bytes-reply, need-reply, yes-reply, not-reply, bad-reply, read-numbers, refused-numbers)
+pub ruleset number-laws = (rows-reply, refusal-reply, items-reply, no-items-reply, bytes-reply, need-reply, yes-reply, not-reply, bad-reply, read-numbers, refused-numbers)
 
 module _ (s : List ℕ) (a e : ℕ) (q : Bool) (v : q ≡ goodSpan s a e) where
   pub good-part : q ≡ true → record { start = a; length = e - a } ≡ partOf s a e

@@ -5,7 +5,7 @@ use mathlib.Core.Bool.{Bool, true, false}
 use mathlib.Core.List.{List}
 use lib.ListN.{length, take, drop}
 use Rattle.row.specs.Row.{width}
-use Rattle.ledger.specs.Plain.{Reading}
+use Rattle.ledger.specs.Plain.{Reading, plain}
 use Rattle.ledger.specs.Answers.{answer, left}
 use Rattle.decimal.specs.declared.Form.{Form}
 use Rattle.access.specs.Single.{evaluated}
@@ -14,12 +14,13 @@ use Rattle.access.specs.Spans.{goodSpan, spanText}
 use Rattle.access.specs.Tables.{inForce}
 use Rattle.bus.specs.Writing.{written, writtenLeft}
 use Rattle.bus.specs.Reading.{rowLeft, textLeft, stepAt}
+use Rattle.totals.specs.Totals.{decided, answerOf, itemsLeft, workLeft}
 use Rattle.lumbrisse.specs.declared.reply.Reply.{Reply}
 use Rattle.lumbrisse.specs.declared.reply.Evaluated.{Evaluated}
 use Rattle.lumbrisse.specs.declared.reply.Handed.{Handed}
 use Rattle.lumbrisse.specs.declared.reply.Part.{Part}
-use Rattle.lumbrisse.specs.Numbers.{replyOf, writtenReply, forceReply, evaluatedOf, partOf, handedOf}
-use Rattle.lumbrisse.specs.Promises.{TablePromise, ContentPromise, ExpressionPromise, TagPromise, SpanPromise, PacketPromise, StepPromise}
+use Rattle.lumbrisse.specs.Numbers.{replyOf, totalsReply, writtenReply, forceReply, evaluatedOf, partOf, handedOf}
+use Rattle.lumbrisse.specs.Promises.{TablePromise, TotalsPromise, ContentPromise, ExpressionPromise, TagPromise, SpanPromise, PacketPromise, StepPromise}
 
 -- both are what is defined
 pub same-defined : {A : Type 0} {x r q : A} → r ≡ x → q ≡ x → r ≡ q
@@ -29,6 +30,11 @@ same-defined e f = e ∙ sym f
 
 pub table-unique : {x : Reading} {t u v : List ℕ} {r q : Reply} → TablePromise x t r u → TablePromise x t q v → (r ≡ q) × (u ≡ v)
 table-unique a b = (same-defined (a .reply) (b .reply), same-defined (a .rows) (b .rows))
+
+pub totals-unique : {s t w u t₁ w₁ u₁ t₂ w₂ u₂ : List ℕ} {y m : ℕ} {r q : Reply} → TotalsPromise s y m t w u r t₁ w₁ u₁ → TotalsPromise s y m t w u q t₂ w₂ u₂
+    → (r ≡ q) × ((t₁ ≡ t₂) × ((w₁ ≡ w₂) × (u₁ ≡ u₂)))
+totals-unique a b =
+    (same-defined (a .reply) (b .reply), (same-defined (a .items) (b .items), (same-defined (a .work) (b .work), same-defined (a .spare) (b .spare))))
 
 pub content-unique : {c t u v : List ℕ} {r q : Reply} → ContentPromise c t r u → ContentPromise c t q v → (r ≡ q) × (u ≡ v)
 content-unique a b = (same-defined (a .reply) (b .reply), same-defined (a .bytes) (b .bytes))
@@ -52,6 +58,12 @@ step-unique a b = (same-defined (a .answer) (b .answer), (same-defined (a .row) 
 
 pub table-total : (x : Reading) (t : List ℕ) → (r : Reply) × ((u : List ℕ) × TablePromise x t r u)
 table-total x t = (replyOf (answer x (length t / width)), (left x t, record { reply = refl; rows = refl }))
+
+pub totals-total : (s : List ℕ) (y m : ℕ) (t w u : List ℕ)
+    → (r : Reply) × ((t′ : List ℕ) × ((w′ : List ℕ) × ((u′ : List ℕ) × TotalsPromise s y m t w u r t′ w′ u′)))
+totals-total s y m t w u =
+    let d = decided s y m (length t) (length w) (length u) (plain s) in
+    (totalsReply (answerOf d), (itemsLeft d t, (workLeft d w, (workLeft d u, record { reply = refl; items = refl; work = refl; spare = refl }))))
 
 pub content-total : (c t : List ℕ) → (r : Reply) × ((u : List ℕ) × ContentPromise c t r u)
 content-total c t = (writtenReply (contentAnswer c (length t)), (contentLeft c t, record { reply = refl; bytes = refl }))

@@ -4,6 +4,7 @@ use mathlib.Core.Bool.{cond}
 use mathlib.Core.List.{List}
 use Rattle.decimal.specs.Exact.{wholeOf, twosOf}
 use Rattle.ledger.specs.declared.read.Answer.{Answer}
+use Rattle.totals.specs.declared.totals.Answer as totals
 use Rattle.access.specs.Spans.{goodSpan}
 use Rattle.access.specs.declared.written.Written.{Written}
 use Rattle.access.specs.declared.single.Evaluated as single
@@ -22,6 +23,11 @@ replied n p c = record { number = n; place = p; count = c }
 unfoldable pub replyOf : Answer → Reply
 replyOf (Answer.Rows n) = replied 0 0 n
 replyOf (Answer.Refusal n p c) = replied n p c
+
+-- monthly totals: how many items, or number, place and count of a refusal
+unfoldable pub totalsReply : totals.Answer → Reply
+totalsReply (totals.Answer.Items n) = replied 0 0 n
+totalsReply (totals.Answer.Refusal n p c) = replied n p c
 
 -- bytes written, of string content or of a packet: how many, or number and need; the place of 9, 10 and 18 is 0
 unfoldable pub writtenReply : Written → Reply

@@ -5,7 +5,7 @@ use mathlib.Core.List.{List}
 use lib.ListN.{length, take, drop}
 use Rattle.decimal.specs.declared.Form.{Form}
 use Rattle.row.specs.Row.{width}
-use Rattle.ledger.specs.Plain.{Reading}
+use Rattle.ledger.specs.Plain.{Reading, plain}
 use Rattle.ledger.specs.Answers.{answer, left}
 use Rattle.access.specs.Single.{evaluated}
 use Rattle.access.specs.Contents.{contentAnswer, contentLeft}
@@ -13,16 +13,24 @@ use Rattle.access.specs.Tables.{inForce}
 use Rattle.access.specs.Spans.{spanText}
 use Rattle.bus.specs.Writing.{written, writtenLeft}
 use Rattle.bus.specs.Reading.{rowLeft, textLeft, stepAt}
+use Rattle.totals.specs.Totals.{decided, answerOf, itemsLeft, workLeft}
 use Rattle.lumbrisse.specs.declared.reply.Reply.{Reply}
 use Rattle.lumbrisse.specs.declared.reply.Evaluated.{Evaluated}
 use Rattle.lumbrisse.specs.declared.reply.Handed.{Handed}
 use Rattle.lumbrisse.specs.declared.reply.Part.{Part}
-use Rattle.lumbrisse.specs.Numbers.{replyOf, writtenReply, forceReply, evaluatedOf, partOf, handedOf}
+use Rattle.lumbrisse.specs.Numbers.{replyOf, totalsReply, writtenReply, forceReply, evaluatedOf, partOf, handedOf}
 
 -- a reading of a ledger into a table t: plain or recovering, in either profile, or that of an edited ledger
 pub record TablePromise (reading : Reading) (t : List ℕ) (r : Reply) (u : List ℕ) : Type 0 where
   pub reply : r ≡ replyOf (answer reading (length t / width))
   pub rows : u ≡ left reading t
+
+-- the totals of a ledger s for a year and month into a buffer t, with the working spaces w and u
+pub record TotalsPromise (s : List ℕ) (year month : ℕ) (t w u : List ℕ) (r : Reply) (t′ w′ u′ : List ℕ) : Type 0 where
+  pub reply : r ≡ totalsReply (answerOf (decided s year month (length t) (length w) (length u) (plain s)))
+  pub items : t′ ≡ itemsLeft (decided s year month (length t) (length w) (length u) (plain s)) t
+  pub work : w′ ≡ workLeft (decided s year month (length t) (length w) (length u) (plain s)) w
+  pub spare : u′ ≡ workLeft (decided s year month (length t) (length w) (length u) (plain s)) u
 
 -- content c into a buffer t
 pub record ContentPromise (c t : List ℕ) (r : Reply) (u : List ℕ) : Type 0 where

@@ -19,7 +19,7 @@ ghost use Rattle.ledger.specs.Plain.{plain};
 ghost use Rattle.ledger.specs.Strict.{strict};
 ghost use Rattle.recovery.specs.Recovering.{recovered, recoveredStrictly};
 ghost use Rattle.edit.specs.Edits.{editing};
-ghost use Rattle.lumbrisse.specs.Promises.{TablePromise, ContentPromise, ExpressionPromise, TagPromise, SpanPromise, PacketPromise, StepPromise};
+ghost use Rattle.lumbrisse.specs.Promises.{TablePromise, TotalsPromise, ContentPromise, ExpressionPromise, TagPromise, SpanPromise, PacketPromise, StepPromise};
 
 // Plain reading: the rows' count, or a refusal.
 #[no_mangle]
@@ -73,6 +73,23 @@ pub extern "C" fn lumbrisse_edit(
 {
     let a = reread::edit(old, rows, k, start, end, new, table);
     reply::reply_of(a)
+}
+
+// The totals of a ledger for a year and month (M-108): the items' count, or a refusal. `work` and `spare` are working
+// space: 32 bytes in each for each posting of the month.
+#[no_mangle]
+pub extern "C" fn lumbrisse_totals(
+    ledger: &[u8],
+    year: usize,
+    month: usize,
+    items: &mut [u8],
+    work: &mut [u8],
+    spare: &mut [u8],
+) -> Reply
+    ensures { λ r. ⌜ TotalsPromise (now (ledger .entry)) year month (now (items .entry)) (now (work .entry)) (now (spare .entry)) r (now (items .exit)) (now (work .exit)) (now (spare .exit)) ⌝ }
+{
+    let a = totals::totals::totals(ledger, year, month, items, work, spare);
+    reply::totals_reply(a)
 }
 
 // The expression at a text's start: its value and where it stops, or a refusal. Products and quotients round, as in

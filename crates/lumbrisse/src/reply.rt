@@ -5,7 +5,7 @@ use access::written::Written;
 use bus::packet::Step;
 use ledger::read::Answer;
 ghost use mathlib.Core.Path.{_≡_};
-ghost use Rattle.lumbrisse.specs.Numbers.{replied, replyOf, writtenReply, forceReply, evaluatedOf, handedBy, handedOf};
+ghost use Rattle.lumbrisse.specs.Numbers.{replied, replyOf, totalsReply, writtenReply, forceReply, evaluatedOf, handedBy, handedOf};
 
 // Number 0: accepted. What an answer has not is 0.
 #[repr(C)]
@@ -54,6 +54,19 @@ fn replied(number: usize, place: usize, count: usize) -> Reply
         number,
         place,
         count,
+    }
+}
+
+pub fn totals_reply(a: totals::totals::Answer) -> Reply
+    ensures { λ r. ⌜ r ≡ totalsReply a ⌝ }
+{
+    match a {
+        totals::totals::Answer::Items(n) => replied(0, 0, n),
+        totals::totals::Answer::Refusal {
+            number,
+            place,
+            count: need,
+        } => replied(number, place, need),
     }
 }
 

@@ -1,7 +1,7 @@
 -- Postings with their metadata, and the lines after a transaction's head, each answer from what the code knows where it gives it.
 use Prim.Native.Nat.{ℕ, suc, _+_, _≤_}
 use native.Mathlib.Omega.{arith}
-use mathlib.Core.Path.{_≡_, refl, sym, _∙_, ap, subst}
+use mathlib.Core.Path.{_≡_, refl, ap, subst}
 use mathlib.Core.List.{List}
 use borrow.Author.Tests.{le-ltb}
 use lib.ListN.{length}
@@ -11,18 +11,19 @@ use Rattle.text.specs.Lines.{gapAt, emptyAt}
 use Rattle.text.specs.declared.Read.{Read}
 use Rattle.text.proofs.Joins.{Reach}
 use Rattle.amount.specs.declared.detail.Detail.{Detail}
+use Rattle.amount.specs.Details.{Rows}
 use Rattle.amount.proofs.RowCounts.{fits-at}
 use Rattle.row.specs.steps.Writing.{Did}
 use Rattle.row.specs.declared.writer.Out.{Out}
 use Rattle.row.specs.declared.writer.Ran.{Ran}
 use Rattle.row.proofs.OutLaws.{rows-outs, poured-none}
-use Rattle.row.proofs.DidLaws.{did-none, did-miss, was-read, and-read, and-miss, and-hard, else-read, else-miss, else-hard}
+use Rattle.row.proofs.DidLaws.{did-none, was-read, and-read, and-miss, and-hard, else-read, else-miss, else-hard}
 use Rattle.posting.specs.Metadata.{metadata}
 use Rattle.posting.specs.Postings.{postingLine, posting, bodyStep, body}
 use Rattle.posting.proofs.PostingEnds.{posting-line-reach, body-step-reach}
 use Rattle.posting.proofs.PostingFew.{posting-line-fits, body-step-fits}
 use Rattle.posting.proofs.OneRows.{token-miss}
-use Rattle.posting.proofs.ManyLaws.{Stepping, Runs, runs-start, runs-done, runs-less, runs-turn, runs-stop, runs-halt}
+use Rattle.posting.proofs.ManyLaws.{Stepping, Turns, turns-start, turns-laws}
 use Rattle.posting.proofs.MetaWrites.{gap-end}
 
 -- what a reader that may stand behind others needs: room for its rows
@@ -93,12 +94,17 @@ module _ (s : List ℕ) where
   pub body-stepping : Stepping (length s) (bodyStep s)
   body-stepping = record { text = s; reach = body-step-reach s; fits = body-step-fits s; ends = body-end }
 
-  pub body-start : (base at : ℕ) (o : Out) (t : List ℕ) → at ≤ length s → o .rows ≤ at → Runs base (length s) (bodyStep s) (body s at) o t at o t
-  unfolding body
-  body-start base at o t = runs-start base (length s) (bodyStep s) at o t
+  pub body-start : (base d at : ℕ) (o : Out) (t : List ℕ) → at ≤ length s → o .rows ≤ at
+      → Turns base (length s) (bodyStep s) (many (bodyStep s) d at) o t d at o t
+  body-start base d at o t = turns-start base (length s) (bodyStep s) d at o t
 
-  pub body-room : (base at : ℕ) (o₀ : Out) (t₀ : List ℕ) (i : ℕ) (o : Out) (t : List ℕ) → Runs base (length s) (bodyStep s) (body s at) o₀ t₀ i o t
+  pub body-room : (base : ℕ) (a : Rows) (o₀ : Out) (t₀ : List ℕ) (d i : ℕ) (o : Out) (t : List ℕ) → Turns base (length s) (bodyStep s) a o₀ t₀ d i o t
       → base ≤ 16777216 → length s ≤ 16777216 → Room base s i o
-  body-room base at o₀ t₀ i o t R b n = (b, n, R .inside, R .few)
+  body-room base a o₀ t₀ d i o t R b n = (b, n, R .inside, R .few)
 
-pub ruleset body-laws = (body-stepping, body-start, body-room, runs-done, runs-less, runs-turn, runs-stop, runs-halt)
+pub ruleset body-laws = (body-stepping, body-start, body-room, turns-laws)
+
+-- as many steps as there may be
+pub body-all : (s : List ℕ) (base at : ℕ) (o : Out) (t u : List ℕ) (r : Ran) → Did base (many (bodyStep s) (length s + 1) at) o t u r → Did base (body s at) o t u r
+unfolding body
+body-all s base at o t u r d = let k : length s + 1 ≡ suc (length s) = omega arith in rw k at d

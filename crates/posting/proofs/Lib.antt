@@ -15,3 +15,4 @@ pub mod FlagLaws
 pub mod FewRows
 pub mod PostWrites
 pub mod BodyWrites
+pub mod StepRows

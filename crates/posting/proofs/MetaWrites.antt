@@ -14,6 +14,7 @@ use Rattle.text.proofs.Steps.{run-ends}
 use Rattle.amount.specs.steps.Answers.{oneOf}
 use Rattle.amount.specs.declared.detail.Detail.{Detail}
 use Rattle.amount.specs.declared.detail.One.{One}
+use Rattle.amount.proofs.RowCounts.{fits-wide}
 use Rattle.row.specs.Row.{pourAt}
 use Rattle.row.specs.Details.{laid}
 use Rattle.row.specs.steps.Writing.{noted, Did}
@@ -66,7 +67,7 @@ module _ (s : List ℕ) where
   step-end = rw (line-end, le-ltb (length s) (length s) (omega arith))
 
   pub meta-stepping : Stepping (length s) (metaStep s)
-  meta-stepping = record { text = s; reach = meta-step-reach s; fits = meta-step-fits s; ends = step-end }
+  meta-stepping = record { text = s; reach = meta-step-reach s; fits = λ i h. fits-wide _ i _ (omega arith) (meta-step-fits s i h); ends = step-end }
 
   pub meta-start : (base at : ℕ) (o : Out) (t : List ℕ) → at ≤ length s → o .rows ≤ at → Runs base (length s) (metaStep s) (metadata s at) o t at o t
   unfolding metadata

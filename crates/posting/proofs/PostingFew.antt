@@ -16,7 +16,7 @@ use Rattle.amount.specs.Expression.{expression}
 use Rattle.amount.specs.Amounts.{amount}
 use Rattle.amount.proofs.ExpressionEnds.{expression-reach}
 use Rattle.amount.proofs.AmountLaws.{amount-reach}
-use Rattle.amount.proofs.RowCounts.{flagKind, midLine, Rising, placed-wide, Holds, Fits, to-fits, fits-from, else-fits, then-rows, then-fits, and-fits, maybe-fits, many-fits, Bare, token-bare, test-bare, bare-fits, bare-and, gap-bare, line-bare, empty-bare, account-bare, currency-bare, byte-bare, string-and}
+use Rattle.amount.proofs.RowCounts.{Kinds, partKinds, metaKinds, midLine, Rising, placed-wide, Holds, FitsFrom, Fits, to-fits, fits-from, fits-wide, else-fits, then-rows, then-fits, and-fits, maybe-fits, many-fits, Bare, token-bare, test-bare, bare-fits, bare-and, gap-bare, line-bare, empty-bare, account-bare, currency-bare, byte-bare, string-and}
 use Rattle.amount.proofs.AmountFew.{amount-fits}
 use Rattle.posting.specs.Metadata.{key, quoted, value, metaLine, metaStep, metadata}
 use Rattle.posting.specs.Costs.{price, comma, Lot, inside, cost}
@@ -27,27 +27,27 @@ module _ (s : List ℕ) where
   abbrev N : ℕ
   N = length s
 
-  pub line-fits : (at : ℕ) → at ≤ N → Fits s at (lineEnd s at)
+  pub line-fits : {K : Kinds} (at : ℕ) → at ≤ N → FitsFrom K s at (lineEnd s at)
   line-fits at h = bare-fits N at _ (line-reach s at h) (line-bare s at)
 
-  empty-fits : (at : ℕ) → at ≤ N → Fits s at (emptyLine s at)
+  empty-fits : {K : Kinds} (at : ℕ) → at ≤ N → FitsFrom K s at (emptyLine s at)
   empty-fits at h = bare-fits N at _ (reach-from N (at + 1) at _ (omega arith) (empty-reach s at h)) (empty-bare s at)
 
   -- a gap before rows
-  pub gap-and : (k at : ℕ) (f : ℕ → Rows) → at ≤ N → ((g : ℕ) → at + 1 ≤ g → g ≤ N → Fits s k (f g)) → Fits s k (gap s at and f)
+  pub gap-and : {K : Kinds} (k at : ℕ) (f : ℕ → Rows) → at ≤ N → ((g : ℕ) → at + 1 ≤ g → g ≤ N → FitsFrom K s k (f g)) → FitsFrom K s k (gap s at and f)
   gap-and k at f h u = bare-and N (at + 1) k (gap s at) f (gap-reach s at h) (gap-bare s at) u
 
-  pub spaced-fits : (f : ℕ → Rows) → ((i : ℕ) → Fits s i (f i)) → (at : ℕ) → at ≤ N → Fits s at (gap s at and f)
+  pub spaced-fits : {K : Kinds} (f : ℕ → Rows) → ((i : ℕ) → FitsFrom K s i (f i)) → (at : ℕ) → at ≤ N → FitsFrom K s at (gap s at and f)
   spaced-fits f u at h = gap-and at at f h (λ g p q. fits-from g at (f g) (omega arith) (u g))
 
   -- ---- rule 16
 
-  pub quoted-fits : (row : ℕ → ℕ → Detail) (k at : ℕ) → (midLine s (at + 1) ≡ 1 → (e : ℕ) → at + 1 ≤ e → Rising (suc flagKind) s k e (row (at + 1) (e - 1) ∷ [])) → k ≤ at → Fits s k (quoted row s at)
+  pub quoted-fits : {K : Kinds} (row : ℕ → ℕ → Detail) (k at : ℕ) → (midLine s (at + 1) ≡ 1 → (e : ℕ) → at + 1 ≤ e → Rising K s k e (row (at + 1) (e - 1) ∷ [])) → k ≤ at → FitsFrom K s k (quoted row s at)
   unfolding quoted
   quoted-fits row k at f h = string-and s N k at _ (λ m e p q. to-fits k e _ (f m e p, omega arith)) (string-reach s at)
 
   -- a metadata row spans its key
-  pub value-fits : (k c at : ℕ) → k ≤ at → c ≤ at → Fits s k (value k c s at)
+  pub value-fits : (k c at : ℕ) → k ≤ at → c ≤ at → FitsFrom metaKinds s k (value k c s at)
   unfolding value
   value-fits k c at h g =
       else-fits k _ _ (quoted-fits (named 35 k c) k at (λ m e p. omega arith) h)
@@ -59,7 +59,7 @@ module _ (s : List ℕ) where
   unfolding key
   key-bare at = token-bare _
 
-  pub meta-line-fits : (at : ℕ) → at ≤ N → Fits s at (metaLine s at)
+  pub meta-line-fits : (at : ℕ) → at ≤ N → FitsFrom metaKinds s at (metaLine s at)
   unfolding metaLine
   meta-line-fits at h =
       gap-and at at _ h (λ k p₁ q₁.
@@ -69,17 +69,17 @@ module _ (s : List ℕ) where
       gap-and k d _ q₃ (λ v p₄ q₄.
       and-fits N (v + 1) k (value k c s v) _ (value-reach s k c v) (value-fits k c v (omega arith) (omega arith)) (λ e p₅ q₅. line-fits e q₅))))))
 
-  pub meta-step-fits : (at : ℕ) → at ≤ N → Fits s at (metaStep s at)
+  pub meta-step-fits : (at : ℕ) → at ≤ N → FitsFrom metaKinds s at (metaStep s at)
   unfolding metaStep
   meta-step-fits at h = else-fits at _ _ (meta-line-fits at h) (empty-fits at h)
 
-  pub metadata-fits : (at : ℕ) → at ≤ N → Fits s at (metadata s at)
+  pub metadata-fits : (at : ℕ) → at ≤ N → FitsFrom metaKinds s at (metadata s at)
   unfolding metadata
   metadata-fits at h = many-fits N (metaStep s) (meta-step-reach s) meta-step-fits (suc N) at h
 
   -- ---- rule 12's price
 
-  pub price-fits : (at : ℕ) → Fits s at (price s at)
+  pub price-fits : (at : ℕ) → FitsFrom partKinds s at (price s at)
   unfolding price
   price-fits at =
       else-fits at _ _
@@ -103,26 +103,26 @@ module _ (s : List ℕ) where
   abbrev pub held : Lot → List Detail
   held l = l .rows
 
-  pub inside-fits : (at : ℕ) → at ≤ N → Holds (suc flagKind) s held at (inside s at)
+  pub inside-fits : (at : ℕ) → at ≤ N → Holds partKinds s held at (inside s at)
   unfolding inside
   inside-fits at h =
       else-fits at _ _
       (then-rows _ N (at + 1) at at (amount 26 s at) _ (amount-reach s 26 at) (amount-fits s 26 at (omega arith)) (λ i rs p₁ q₁ r₁.
       then-fits N (i + 1) at (comma s i) _ (comma-reach s i q₁) (λ j _ p₂ q₂.
       then-fits N (j + 10) at (date s j) _ (date-reach s j q₂) (λ e d p₃ q₃.
-      to-fits at e _ (placed-wide (suc flagKind) (suc flagKind) s at i at e rs (omega arith) (omega arith) (omega arith) r₁)))))
+      to-fits at e _ (placed-wide partKinds partKinds s at i at e rs (omega arith) (omega arith) (omega arith) r₁)))))
       (else-fits at _ _
       (then-fits N (at + 10) at (date s at) _ (date-reach s at h) (λ i d p₁ q₁.
       then-fits N (i + 1) at (comma s i) _ (comma-reach s i q₁) (λ j _ p₂ q₂.
       then-rows _ N (j + 1) j at (amount 26 s j) _ (amount-reach s 26 j) (amount-fits s 26 j (omega arith)) (λ e rs p₃ q₃ r₃.
-      to-fits at e _ (placed-wide (suc flagKind) (suc flagKind) s j e at e rs (omega arith) (omega arith) (omega arith) r₃)))))
+      to-fits at e _ (placed-wide partKinds partKinds s j e at e rs (omega arith) (omega arith) (omega arith) r₃)))))
       (else-fits at _ _
       (then-rows _ N (at + 1) at at (amount 26 s at) _ (amount-reach s 26 at) (amount-fits s 26 at (omega arith)) (λ e rs p₁ q₁ r₁. to-fits at e _ r₁))
       (else-fits at _ _
       (then-fits N (at + 10) at (date s at) _ (date-reach s at h) (λ e d p₁ q₁. to-fits at e _ (omega arith)))
       (to-fits at at _ (omega arith)))))
 
-  pub cost-fits : (at : ℕ) → Fits s at (cost s at)
+  pub cost-fits : (at : ℕ) → FitsFrom partKinds s at (cost s at)
   unfolding cost
   cost-fits at =
       bare-and N (at + 1) at (byte 123 s at) _ (byte-reach s at 123 (omega arith)) (byte-bare s at 123) (λ i p₁ q₁.
@@ -131,7 +131,7 @@ module _ (s : List ℕ) where
       then-rows held N b b at (inside s b) _ (inside-reach s b (r .1)) (inside-fits b (r .1)) (λ e l p₂ q₂ r₂.
       let w = run-reach isBlank s e q₂ in
       bare-and N (blanks s e + 1) at (byte 125 s (blanks s e)) _ (byte-reach s (blanks s e) 125 (omega arith)) (byte-bare s (blanks s e) 125) (λ f p₃ q₃.
-      to-fits at f _ ((omega arith, omega arith, omega arith, placed-wide (suc flagKind) (suc flagKind) s b e at f (l .rows) (omega arith) (omega arith) (omega arith) r₂ .0), omega arith))))
+      to-fits at f _ ((omega arith, omega arith, omega arith, placed-wide partKinds partKinds s b e at f (l .rows) (omega arith) (omega arith) (omega arith) r₂ .0), omega arith))))
 
   -- ---- rule 12
 
@@ -139,7 +139,7 @@ module _ (s : List ℕ) where
   unfolding flag
   flag-bare at = test-bare (isFlag (getD s at 0)) (at + 1)
 
-  pub units-fits : (at : ℕ) → at ≤ N → Fits s at (units s at)
+  pub units-fits : (at : ℕ) → at ≤ N → FitsFrom partKinds s at (units s at)
   unfolding units
   units-fits at h =
       gap-and at at _ h (λ g p₁ q₁.
@@ -156,11 +156,11 @@ module _ (s : List ℕ) where
       then-fits N g at (postingFlag s g) _ (posting-flag-reach s g q₁) (λ a f p₂ q₂.
       bare-and N (a + 1) at (account s a) _ (account-reach s a) (account-bare s a) (λ e p₃ q₃.
       and-fits N e at (To e _) _ (to-reach N e e _ (omega arith) q₃) (to-fits at e _ (omega arith)) (λ e p₄ q₄.
-      and-fits N e e (maybe e (units s e)) _ (optional-reach N e _ q₄ (units-reach s e q₄)) (maybe-fits e _ (units-fits e q₄)) (λ m p₅ q₅. line-fits m q₅)))))
+      and-fits N e e (maybe e (units s e)) _ (optional-reach N e _ q₄ (units-reach s e q₄)) (fits-wide _ e _ (omega arith) (maybe-fits e _ (units-fits e q₄))) (λ m p₅ q₅. line-fits m q₅)))))
 
   pub posting-fits : (at : ℕ) → at ≤ N → Fits s at (posting s at)
   unfolding posting
-  posting-fits at h = and-fits N (at + 1) at (postingLine s at) _ (posting-line-reach s at h) (posting-line-fits at h) (λ l p q. metadata-fits l q)
+  posting-fits at h = and-fits N (at + 1) at (postingLine s at) _ (posting-line-reach s at h) (posting-line-fits at h) (λ l p q. fits-wide _ l _ (omega arith) (metadata-fits l q))
 
   -- ---- rule 11's postings and empty lines
 

@@ -8,7 +8,8 @@ use text::line;
 ghost use Prim.Native.Nat.{_≤_};
 ghost use lib.ListN.{length};
 ghost use Rattle.row.specs.steps.Writing.{Did};
-ghost use Rattle.posting.specs.Postings.{posting, bodyStep, body};
+ghost use Rattle.text.specs.Answer.{many};
+ghost use Rattle.posting.specs.Postings.{posting, bodyStep};
 
 // A posting with its metadata.
 fn posting_at(s: &[u8], at: usize, base: usize, table: &mut [u8], out: Out) -> Ran
@@ -42,19 +43,21 @@ fn body_step(s: &[u8], at: usize, base: usize, table: &mut [u8], out: Out) -> Ra
     }
 }
 
-// Postings and empty lines.
-pub fn body_at(s: &[u8], at: usize, base: usize, table: &mut [u8], out: Out) -> Ran
+// Postings and empty lines, so many at the most.
+pub fn body_at(s: &[u8], at: usize, base: usize, table: &mut [u8], out: Out, most: usize) -> Ran
     requires { ⌜ (base ≤ 16777216) × (length (now s) ≤ 16777216) × (at ≤ length (now s)) × (out .rows ≤ at) ⌝ }
-    ensures { λ r. ⌜ Did base (body (now (s .entry)) at) out (now (table .entry)) (now (table .exit)) r ⌝ }
+    ensures { λ r. ⌜ Did base (many (bodyStep (now (s .entry))) most at) out (now (table .entry)) (now (table .exit)) r ⌝ }
 {
     let mut i = at;
     let mut o = out;
-    while i < s.len() {
+    let mut left = most;
+    while 0 < left {
         let x = body_step(s, i, base, table, o);
         match x {
             Ran::To(e, m) => {
                 o = m;
                 i = e;
+                left -= 1;
             }
             Ran::Miss => return Ran::To(i, o),
             Ran::Hard(k, p) => return Ran::Hard(k, p),

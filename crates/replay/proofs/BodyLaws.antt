@@ -6,7 +6,7 @@ use mathlib.Core.Bool.{Bool, true}
 use mathlib.Core.List.{List}
 use borrow.Author.Tests.{leb-true}
 use lib.Dec.{leb}
-use lib.ListN.{length, take}
+use lib.ListN.{length, take, drop, length-take, length-drop}
 use lib.Seq.{length-take-le}
 use Rattle.replay.specs.declared.call.Reply.{Reply}
 use Rattle.replay.specs.declared.case.Case.{Case}
@@ -28,7 +28,11 @@ second-cut v c must s u t after n m e = let k : n + m - n ≡ m = omega arith in
 pub spare-holds : (n : ℕ) (xs ys : List ℕ) → n ≤ length xs → n ≤ length ys → length (take n xs) ≤ length ys
 spare-holds n xs ys h l = rw (length-take-le n xs h) l
 
-pub ruleset body-laws = (front-counts, first-counts, second-cut, spare-holds)
+-- and so has one for the second text
+pub second-holds : (n m : ℕ) (xs ys : List ℕ) → n + m ≤ length xs → m ≤ length ys → length (take (n + m - n) (drop n xs)) ≤ length ys
+second-holds n m xs ys h l = let k : n + m - n ≡ m = omega arith in rw (k, length-take, length-drop) (omega arith)
+
+pub ruleset body-laws = (front-counts, first-counts, second-cut, spare-holds, second-holds)
 
 -- what the header's limit says
 pub within-limit : (n m t : ℕ) (r : Bool) → r ≡ leb (56 + n + m + t + t) 65536 → r ≡ true → 56 + n + m + t + t ≤ 65536

@@ -4,4 +4,5 @@ pub mod ReplyLaws
 pub mod VerdictLaws
 pub mod ChangeLaws
 pub mod DisplayLaws
+pub mod MonthLaws
 pub mod StepLaws

@@ -1,7 +1,7 @@
 -- What each call answers, as the four numbers of a case, and every byte of the lent buffer afterwards.
-use Prim.Native.Nat.{ℕ, _/_}
-use mathlib.Core.Bool.{Bool, cond, _||_}
-use mathlib.Core.List.{List, _++_}
+use Prim.Native.Nat.{ℕ, _-_, _/_}
+use mathlib.Core.Bool.{Bool, true, cond, _||_, _&&_}
+use mathlib.Core.List.{List, [], _∷_, _++_}
 use lib.Dec.{eqb, leb}
 use lib.ListN.{length, take, drop}
 use Rattle.row.specs.Row.{width}
@@ -10,14 +10,15 @@ use Rattle.ledger.specs.Strict.{strict}
 use Rattle.ledger.specs.Answers.{answer, left}
 use Rattle.recovery.specs.Recovering.{recovered, recoveredStrictly}
 use Rattle.edit.specs.Edits.{editing}
+use Rattle.totals.specs.Totals as totals
 use Rattle.decimal.specs.declared.Form.the-variants.{Exact, Rounding}
 use Rattle.access.specs.Single.{evaluated}
 use Rattle.access.specs.Contents.{contentAnswer, contentLeft}
-use Rattle.access.specs.Tables.{inForce}
+use Rattle.access.specs.Tables.{same, inForce}
 use Rattle.bus.specs.declared.packet.Step.{Step}
 use Rattle.bus.specs.Reading.{rowLeft, textLeft, stepAt}
 use Rattle.bus.specs.Writing.{written, writtenLeft}
-use Rattle.lumbrisse.specs.Numbers.{replyOf, writtenReply, forceReply, evaluatedOf, partOf, handedOf}
+use Rattle.lumbrisse.specs.Numbers.{replyOf, totalsReply, writtenReply, forceReply, evaluatedOf, partOf, handedOf}
 use Rattle.lumbrisse.specs.declared.reply as box
 use Rattle.replay.specs.declared.case.Case.{Case}
 use Rattle.replay.specs.declared.call.Reply.{Reply}
@@ -61,6 +62,39 @@ edited c s u t = cond (leb (c .d) (length u)) (Outcome.Answered (ofReply (replyO
 abbrev pub editedLeft : Case → List ℕ → List ℕ → List ℕ → List ℕ
 editedLeft c s u t = cond (leb (c .d) (length u)) (left (editOf c s u) t) t
 
+-- ---- totals: the second text has a working space in its first c bytes, and behind them the other
+
+abbrev pub totalsOf : Case → List ℕ → List ℕ → List ℕ → totals.Outcome
+totalsOf c s u t = totals.decided s (c .a) (c .b) (length t) (length (take (c .c) u)) (length (drop (c .c) u)) (plain s)
+
+unfoldable pub zeros : List ℕ → Bool
+zeros [] = true
+zeros (b ∷ y) = eqb b 0 && zeros y
+
+-- a working space, x before and y after the call: its first d bytes are zeros, and the others as they were
+abbrev pub wiped : ℕ → List ℕ → List ℕ → Bool
+wiped d x y = leb d (length x) && (leb d (length y) && (zeros (take d y) && same (drop d y) (drop d x)))
+
+-- the same of both, which stand one behind the other, n bytes and the rest; afterwards they are the fronts of y and z
+abbrev pub bothWiped : ℕ → ℕ → List ℕ → List ℕ → List ℕ → Bool
+bothWiped n d u y z = wiped d (take n u) (take n y) && wiped d (drop n u) (take (length u - n) z)
+
+abbrev pub spacesKept : Case → List ℕ → totals.Outcome → Bool
+spacesKept c u o = bothWiped (c .c) (c .d) u (totals.workLeft o (take (c .c) u)) (totals.workLeft o (drop (c .c) u))
+
+-- a reply, and 1 in place of what is handed out where a working space is not as it must be
+abbrev pub ofTotals : box.Reply.Reply → Bool → Reply
+ofTotals r kept = record { number = r .number; place = r .place; count = r .count; value = 0; tag = cond kept 0 1 }
+
+-- a case whose working space is longer than both is none
+abbrev pub totalled : Case → List ℕ → List ℕ → List ℕ → Outcome
+totalled c s u t =
+    let o = totalsOf c s u t in
+    cond (leb (c .c) (length u)) (Outcome.Answered (ofTotals (totalsReply (totals.answerOf o)) (spacesKept c u o))) Outcome.Unknown
+
+abbrev pub totalledLeft : Case → List ℕ → List ℕ → List ℕ → List ℕ
+totalledLeft c s u t = cond (leb (c .c) (length u)) (totals.itemsLeft (totalsOf c s u t) t) t
+
 -- the calls of a single expression by their form; 12 and 13 are the second engine's (M-113), which answers as the first
 abbrev pub isRounding : ℕ → Bool
 isRounding k = eqb k 3 || eqb k 12
@@ -90,12 +124,16 @@ outcome c s u t =
     (cond (isRounding k) single
     (cond (isExact k) singleExact
     (cond (eqb k 4) content
-    (cond (eqb k 5) part (cond (eqb k 6) force (cond (eqb k 14) (edited c s u t) (cond (eqb k 15) packet (cond (eqb k 16) (stepped (c .a) (c .b) s t) Outcome.Unknown))))))))
+    (cond (eqb k 5) part
+    (cond (eqb k 6) force
+    (cond (eqb k 10) (totalled c s u t)
+    (cond (eqb k 14) (edited c s u t) (cond (eqb k 15) packet (cond (eqb k 16) (stepped (c .a) (c .b) s t) Outcome.Unknown)))))))))
 
--- the lent buffer afterwards: readings, string content, an edit, a packet and a step of its reader write
+-- the lent buffer afterwards: readings, string content, totals, an edit, a packet and a step of its reader write
 unfoldable pub leftBy : Case → List ℕ → List ℕ → List ℕ → List ℕ
 leftBy c s u t =
     let k = c .call in
     cond (isReading k) (left (readingOf k s) t)
     (cond (eqb k 4) (contentLeft s t)
-    (cond (eqb k 14) (editedLeft c s u t) (cond (eqb k 15) (writtenLeft s (c .a) u t) (cond (eqb k 16) (steppedLeft (c .a) (c .b) s t) t))))
+    (cond (eqb k 10) (totalledLeft c s u t)
+    (cond (eqb k 14) (editedLeft c s u t) (cond (eqb k 15) (writtenLeft s (c .a) u t) (cond (eqb k 16) (steppedLeft (c .a) (c .b) s t) t)))))

@@ -2,6 +2,7 @@
 use crate::case::Case;
 use crate::change;
 use crate::display;
+use crate::month;
 use lumbrisse::reply;
 ghost use mathlib.Core.Path.{_≡_};
 ghost use Prim.Native.Nat.{_≤_};
@@ -27,6 +28,8 @@ pub const RECOVERING_STRICT: usize = 8;
 
 pub const SINGLE_EXACT: usize = 9;
 
+pub const TOTALS: usize = 10;
+
 pub const STACKED: usize = 12;
 
 pub const STACKED_EXACT: usize = 13;
@@ -44,7 +47,7 @@ pub struct Reply {
     pub count: usize,
     // Two's complement.
     pub value: usize,
-    // What a step of a packet's reader handed out.
+    // What a step of a packet's reader handed out; of totals, 1 where a working space is not as it must be.
     pub tag: usize,
 }
 
@@ -95,9 +98,17 @@ fn of_part(p: reply::Part) -> Outcome
     })
 }
 
-// The call of a case. A step of a packet's reader takes two buffers, and has `spare` for one of them.
-pub fn made(c: Case, first: &[u8], second: &[u8], lent: &mut [u8], spare: &mut [u8]) -> Outcome
-    requires { ⌜ length (now lent) ≤ length (now spare) ⌝ }
+// The call of a case. A step of a packet's reader takes two buffers, and has `spare` for one of them; totals have
+// `work` and `spare` for their working spaces.
+pub fn made(
+    c: Case,
+    first: &[u8],
+    second: &[u8],
+    lent: &mut [u8],
+    spare: &mut [u8],
+    work: &mut [u8],
+) -> Outcome
+    requires { ⌜ (length (now lent) ≤ length (now spare)) × (length (now second) ≤ length (now spare)) × (length (now second) ≤ length (now work)) ⌝ }
     ensures answer { λ r. ⌜ r ≡ outcome c (now (first .entry)) (now (second .entry)) (now (lent .entry)) ⌝ }
     ensures bytes { λ _. ⌜ now (lent .exit) ≡ leftBy c (now (first .entry)) (now (second .entry)) (now (lent .entry)) ⌝ }
 {
@@ -112,6 +123,7 @@ pub fn made(c: Case, first: &[u8], second: &[u8], lent: &mut [u8], spare: &mut [
         STRICT => of_reply(lumbrisse::lumbrisse_read_strict(first, lent)),
         RECOVERING_STRICT => of_reply(lumbrisse::lumbrisse_recover_strict(first, lent)),
         SINGLE_EXACT => of_evaluated(lumbrisse::lumbrisse_expression_exact(first)),
+        TOTALS => month::totalled(c, first, second, lent, spare, work),
         STACKED => of_evaluated(lumbrisse::lumbrisse_expression_stacked(first)),
         STACKED_EXACT => of_evaluated(lumbrisse::lumbrisse_expression_stacked_exact(first)),
         EDIT => change::edited(c, first, second, lent),

@@ -26,7 +26,7 @@ pub enum Verdict {
     Unknown,
 }
 
-fn is_same(a: &[u8], b: &[u8]) -> bool
+pub fn is_same(a: &[u8], b: &[u8]) -> bool
     ensures { λ r. ⌜ r ≡ same (now (a .entry)) (now (b .entry)) ⌝ }
 {
     check::same(a, b)
@@ -62,7 +62,7 @@ pub fn is_alike(a: Alike) -> bool
     a.number & a.place & a.count & a.value & a.tag & a.text & a.buffer
 }
 
-// Makes a case's call and compares. `spare` is for a call that takes two buffers.
+// Makes a case's call and compares. `spare` and `work` are for a call that takes more buffers than one.
 pub fn judged(
     c: Case,
     must: Reply,
@@ -70,12 +70,13 @@ pub fn judged(
     second: &[u8],
     lent: &mut [u8],
     spare: &mut [u8],
+    work: &mut [u8],
     after: &[u8],
 ) -> Verdict
-    requires { ⌜ length (now lent) ≤ length (now spare) ⌝ }
+    requires { ⌜ (length (now lent) ≤ length (now spare)) × (length (now second) ≤ length (now spare)) × (length (now second) ≤ length (now work)) ⌝ }
     ensures { λ r. ⌜ r ≡ verdict c must (now (first .entry)) (now (second .entry)) (now (lent .entry)) (now (after .entry)) ⌝ }
 {
-    let o = call::made(c, first, second, lent, spare);
+    let o = call::made(c, first, second, lent, spare, work);
     match o {
         Outcome::Answered(r) => {
             let text = same_text(c, first, second);

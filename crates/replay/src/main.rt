@@ -6,6 +6,7 @@ mod case;
 mod change;
 mod compare;
 mod display;
+mod month;
 mod report;
 mod tally;
 
@@ -48,9 +49,10 @@ fn judged(
     texts: &[u8],
     lent: &mut [u8],
     spare: &mut [u8],
+    work: &mut [u8],
     after: &[u8],
 ) -> Verdict
-    requires { ⌜ (c .first + c .second ≤ length (now texts)) × (c .lent ≤ length (now lent)) × (c .lent ≤ length (now spare)) × (c .lent ≤ length (now after)) ⌝ }
+    requires { ⌜ (c .first + c .second ≤ length (now texts)) × (c .lent ≤ length (now lent)) × (c .lent ≤ length (now spare)) × (c .second ≤ length (now spare)) × (c .second ≤ length (now work)) × (c .lent ≤ length (now after)) ⌝ }
     ensures { λ r. ⌜ r ≡ verdict c must (take (c .first) (now (texts .entry))) (take (c .second) (drop (c .first) (now (texts .entry)))) (take (c .lent) (now (lent .entry))) (take (c .lent) (now (after .entry))) ⌝ }
 {
     let n = c.first;
@@ -63,6 +65,7 @@ fn judged(
         &texts[n..e],
         &mut lent[..t],
         spare,
+        work,
         &after[..t],
     )
 }
@@ -76,12 +79,13 @@ fn whole(
     texts: &mut [u8],
     lent: &mut [u8],
     spare: &mut [u8],
+    work: &mut [u8],
     after: &mut [u8],
 ) -> Step
-    requires { ⌜ (c .first + c .second ≤ length (now texts)) × (c .lent ≤ length (now lent)) × (c .lent ≤ length (now spare)) × (c .lent ≤ length (now after)) ⌝ }
+    requires { ⌜ (c .first + c .second ≤ length (now texts)) × (c .lent ≤ length (now lent)) × (c .lent ≤ length (now spare)) × (c .second ≤ length (now spare)) × (c .second ≤ length (now work)) × (c .lent ≤ length (now after)) ⌝ }
 {
     if body(texts, lent, after, c.first + c.second, c.lent) {
-        let v = judged(c, must, texts, lent, spare, after);
+        let v = judged(c, must, texts, lent, spare, work, after);
         return report::told(number, is_shown, c.call, v);
     }
     report::cut_off(number);
@@ -95,6 +99,7 @@ fn next(
     texts: &mut [u8; 65536],
     lent: &mut [u8; 65536],
     spare: &mut [u8; 65536],
+    work: &mut [u8; 65536],
     after: &mut [u8; 65536],
 ) -> Step {
     let mut head = [0u8; 56];
@@ -116,6 +121,7 @@ fn next(
             texts,
             lent,
             spare,
+            work,
             after,
         );
     }
@@ -127,12 +133,21 @@ fn replayed(
     texts: &mut [u8; 65536],
     lent: &mut [u8; 65536],
     spare: &mut [u8; 65536],
+    work: &mut [u8; 65536],
     after: &mut [u8; 65536],
 ) -> Tally {
     let mut cases: u64 = 0;
     let mut differing: u64 = 0;
     while cases < u64::MAX {
-        let s = next(cases + 1, differing < SHOWN, texts, lent, spare, after);
+        let s = next(
+            cases + 1,
+            differing < SHOWN,
+            texts,
+            lent,
+            spare,
+            work,
+            after,
+        );
         if tally::is_end(s) {
             break;
         }
@@ -149,7 +164,8 @@ fn main() {
     let mut texts = io::large_buffer();
     let mut lent = io::large_buffer();
     let mut spare = io::large_buffer();
+    let mut work = io::large_buffer();
     let mut after = io::large_buffer();
-    let t = replayed(&mut texts, &mut lent, &mut spare, &mut after);
+    let t = replayed(&mut texts, &mut lent, &mut spare, &mut work, &mut after);
     report::total(t.cases, t.differing);
 }

@@ -22,6 +22,7 @@ fn write_name(call: usize) {
         call::STRICT => write(b"strict reading"),
         call::RECOVERING_STRICT => write(b"strict recovering reading"),
         call::SINGLE_EXACT => write(b"single expression, exact"),
+        call::TOTALS => write(b"monthly totals"),
         call::PACKET => write(b"packet"),
         call::STEP => write(b"step of a packet's reader"),
         _ => {
@@ -53,7 +54,7 @@ fn difference(number: u64, call: usize, a: Alike) {
     write_part(a.place, b" place");
     write_part(a.count, b" count");
     write_part(a.value, b" value");
-    write_part(a.tag, b" what is handed out");
+    write_part(a.tag, b" what is handed out, or a working space");
     write_part(a.text, b" text");
     write_part(a.buffer, b" buffer");
     write(b"\n");

@@ -1,4 +1,5 @@
 pub mod FieldLaws
+pub mod ReadBack
 pub mod PourLaws
 pub mod TableLaws
 pub mod WriteLaws

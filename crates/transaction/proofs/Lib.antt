@@ -5,3 +5,4 @@ pub mod HeadLaws
 pub mod MarkLaws
 pub mod ChainLaws
 pub mod Openings
+pub mod HeadRows

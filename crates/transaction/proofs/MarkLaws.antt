@@ -32,6 +32,7 @@ use Rattle.posting.proofs.ManyLaws.{Stepping, Runs, runs-start, runs-room, runs
 use Rattle.transaction.specs.Transaction.{mark, marks}
 use Rattle.transaction.specs.steps.Heads.{linkMark}
 use Rattle.transaction.proofs.TransactionEnds.{mark-reach}
+use Rattle.amount.proofs.RowCounts.{fits-wide}
 use Rattle.transaction.proofs.TransactionFew.{mark-fits}
 
 -- ---- a link: x is its answer
@@ -88,7 +89,7 @@ module _ (s : List ℕ) where
       rw (run-ends isBlank s N (omega arith), ← marked-past 35 inTag s N (omega arith) (omega arith), ← marked-past 94 inLink s N (omega arith) (omega arith))
 
   pub mark-stepping : Stepping (length s) (mark s)
-  mark-stepping = record { text = s; reach = mark-reach s; fits = mark-fits s; ends = mark-end }
+  mark-stepping = record { text = s; reach = mark-reach s; fits = λ i h. fits-wide _ i _ (omega arith) (mark-fits s i h); ends = mark-end }
 
   pub marks-start : (base at : ℕ) (o : Out) (t : List ℕ) → at ≤ length s → o .rows ≤ at → Runs base (length s) (mark s) (marks s at) o t at o t
   unfolding marks

@@ -1,5 +1,5 @@
 -- What opens a transaction: the row of its flag comes first, or none where `txn` opens it; no other row is a flag's.
-use Prim.Native.Nat.{ℕ, suc, _+_, _≤_}
+use Prim.Native.Nat.{ℕ, _+_, _≤_}
 use native.Mathlib.Omega.{arith}
 use mathlib.Core.Path.{_≡_, refl, sym, _∙_, ap}
 use mathlib.Core.Bool.{Bool, true, false, cond}
@@ -9,36 +9,26 @@ use lib.Dec.{eqb}
 use lib.ListN.{length, getD, drop}
 use Rattle.text.specs.Bytes.{bytes, isSmall}
 use Rattle.text.specs.Words.{startsWith, wordAt}
-use Rattle.text.specs.Answer.{To, Miss, Hard, _and_, _else_, more, must}
-use Rattle.text.specs.Leaves.{token, word, lineEnd}
+use Rattle.text.specs.Answer.{To, Miss, Hard, _and_, _else_, more}
+use Rattle.text.specs.Leaves.{token, word}
 use Rattle.text.specs.declared.Read.{Read}
 use Rattle.text.proofs.Steps.{head-drop}
 use Rattle.text.proofs.TestLaws.{absurd-bool, and-left}
-use Rattle.text.proofs.Joins.{Reach, must-reach}
-use Rattle.text.proofs.TokenEnds.{line-reach}
+use Rattle.text.proofs.Joins.{Reach}
 use Rattle.amount.specs.declared.detail.Detail.{Detail}
 use Rattle.amount.specs.Details.{Rows, span}
-use Rattle.amount.proofs.RowCounts.{flagKind, Placed, placed-wide, Fits, must-fits, and-fits}
-use Rattle.posting.specs.Metadata.{metadata}
-use Rattle.posting.specs.Postings.{isFlag, flag}
-use Rattle.posting.proofs.PostingEnds.{metadata-reach}
-use Rattle.posting.proofs.PostingFew.{line-fits, metadata-fits, body-fits}
-use Rattle.transaction.specs.Transaction.{opening, marks, transaction}
-use Rattle.transaction.specs.steps.Heads.{textsOf, linesOf, markedOf, textedOf}
-use Rattle.transaction.proofs.TransactionEnds.{opening-reach, marks-reach}
-use Rattle.transaction.proofs.TransactionFew.{marks-fits}
-use Rattle.transaction.proofs.ChainLaws.{transaction-is, texts-of-reach, texts-of-fits}
+use Rattle.amount.proofs.RowCounts.{flagKind, anyKinds, unflagged, Placed, placed-wide, Fits, and-fits}
+use Rattle.posting.specs.Postings.{isFlag, flag, body}
+use Rattle.posting.proofs.PostingFew.{body-fits}
+use Rattle.transaction.specs.Transaction.{opening, transaction}
+use Rattle.transaction.specs.steps.Heads.{textedOf}
+use Rattle.transaction.proofs.TransactionEnds.{opening-reach}
+use Rattle.transaction.proofs.ChainLaws.{opening-is, texted-reach, texted-unflagged}
 
 -- ---- behind what opens it
 
-texted-fits : (s : List ℕ) (at : ℕ) → at ≤ length s → Fits s at (textedOf s at)
-unfolding textedOf markedOf linesOf
-texted-fits s a q₁ =
-    let n = length s in
-    and-fits n a a (textsOf s a) _ (texts-of-reach s a q₁) (texts-of-fits s a q₁) (λ b p₂ q₂.
-    and-fits n b b (marks s b) _ (marks-reach s b q₂) (marks-fits s b q₂) (λ c p₃ q₃.
-    and-fits n c c (must c (lineEnd s c)) _ (must-reach n c c _ (line-reach s c q₃)) (must-fits c c _ (line-fits s c q₃)) (λ d p₄ q₄.
-    and-fits n d d (metadata s d) _ (metadata-reach s d q₄) (metadata-fits s d q₄) (λ e p₅ q₅. body-fits s e q₅))))
+texted-fits : (s : List ℕ) (at : ℕ) → at ≤ length s → Fits s at (textedOf s at and body s)
+texted-fits s a q = and-fits (length s) a a (textedOf s a) _ (texted-reach s a q) (texted-unflagged s a q) (λ e p q. body-fits s e q)
 
 -- ---- the flag of a transaction that starts at g
 
@@ -74,7 +64,7 @@ opening-was s g = go (isFlag (getD s g 0)) (startsWith (bytes "txn") (drop g s))
 pub record Opened (s : List ℕ) (g n : ℕ) (ds : List Detail) : Type 0 where
   pub others : List Detail
   pub rows : ds ≡ flagRows s g ++ others
-  pub placed : Placed (suc flagKind) s (g + 1) n others
+  pub placed : Placed unflagged s (g + 1) n others
   pub small : Unflagging s g
 
 abbrev pub Opens : List ℕ → ℕ → Rows → Type 0
@@ -84,7 +74,7 @@ Opens s g (Hard k p) = Unit {0}
 
 pub transaction-opens : (s : List ℕ) (g : ℕ) → g ≤ length s → Opens s g (transaction s g)
 unfolding _and_ more
-transaction-opens s g h = rw (transaction-is s g) (on (opening s g) (opening-was s g) (opening-reach s g h))
+transaction-opens s g h = rw (opening-is s g) (on (opening s g) (opening-was s g) (opening-reach s g h))
   where
     behind : (j : ℕ) (xs : List Detail) (a : Rows) → Opening s g (To j xs) → Fits s j a → Opens s g (more xs a)
     behind j xs (To n ys) o r =
@@ -92,18 +82,18 @@ transaction-opens s g h = rw (transaction-is s g) (on (opening s g) (opening-was
     behind j xs Miss o r = tt
     behind j xs (Hard k p) o r = tt
 
-    on : (a : Rows) → Opening s g a → Reach (length s) g a → Opens s g (a and textedOf s)
-    on (To j xs) o r = behind j xs (textedOf s j) o (texted-fits s j (r .ends .1))
+    on : (a : Rows) → Opening s g a → Reach (length s) g a → Opens s g (a and λ j. textedOf s j and body s)
+    on (To j xs) o r = behind j xs (textedOf s j and body s) o (texted-fits s j (r .ends .1))
     on Miss o r = tt
     on (Hard k p) o r = tt
 
 -- all of its rows
-pub opened-placed : (s : List ℕ) (g n : ℕ) (ds : List Detail) → Opened s g n ds → Placed flagKind s g n ds
+pub opened-placed : (s : List ℕ) (g n : ℕ) (ds : List Detail) → Opened s g n ds → Placed anyKinds s g n ds
 opened-placed s g n ds o = rw (o .rows) (go (isFlag (getD s g 0)))
   where
-    others : Placed flagKind s g n (o .others)
-    others = placed-wide (suc flagKind) flagKind s (g + 1) n g n (o .others) (omega arith) (omega arith) (omega arith) (o .placed)
+    others : Placed anyKinds s g n (o .others)
+    others = placed-wide unflagged anyKinds s (g + 1) n g n (o .others) (omega arith) (omega arith) (omega arith) (o .placed)
 
-    go : (t : Bool) → Placed flagKind s g n (cond t (span flagKind g (g + 1) ∷ []) [] ++ o .others)
+    go : (t : Bool) → Placed anyKinds s g n (cond t (span flagKind g (g + 1) ∷ []) [] ++ o .others)
     go true = ((omega arith, omega (arith, o .placed .1), omega (arith, o .placed .1), others .0), omega (arith, o .placed .1))
     go false = others

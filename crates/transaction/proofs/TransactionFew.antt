@@ -7,7 +7,7 @@ use Rattle.text.specs.Bytes.{bytes, isBlank}
 use Rattle.text.specs.Run.{blanks}
 use Rattle.text.proofs.Joins.{reach-from}
 use Rattle.text.proofs.TokenEnds.{run-reach, string-reach, tag-reach, link-reach, word-reach}
-use Rattle.amount.proofs.RowCounts.{flagKind, FitsFrom, Fits, to-fits, else-fits, many-fits, bare-fits, bare-and, word-bare, string-and, tag-and, link-and}
+use Rattle.amount.proofs.RowCounts.{headKinds, partKinds, FitsFrom, to-fits, else-fits, many-fits, bare-fits, bare-and, word-bare, string-and, tag-and, link-and}
 use Rattle.posting.specs.Postings.{flag}
 use Rattle.posting.proofs.PostingEnds.{flag-reach}
 use Rattle.posting.proofs.PostingFew.{gap-and, flag-bare}
@@ -18,14 +18,14 @@ module _ (s : List ℕ) where
   abbrev N : ℕ
   N = length s
 
-  pub opening-fits : (at : ℕ) → at ≤ N → FitsFrom flagKind s at (opening s at)
+  pub opening-fits : (at : ℕ) → at ≤ N → FitsFrom headKinds s at (opening s at)
   unfolding opening
   opening-fits at h =
       else-fits at _ _
       (bare-and N (at + 1) at (flag s at) _ (flag-reach s at) (flag-bare s at) (λ e p q. to-fits at e _ (omega arith)))
       (bare-fits N at _ (reach-from N (at + length (bytes "txn")) at _ (omega arith) (word-reach s at h (bytes "txn"))) (word-bare s at (bytes "txn")))
 
-  pub texts-fits : (at : ℕ) → at ≤ N → Fits s at (texts s at)
+  pub texts-fits : (at : ℕ) → at ≤ N → FitsFrom partKinds s at (texts s at)
   unfolding texts
   texts-fits at h =
       gap-and s at at _ h (λ a p₁ q₁.
@@ -36,7 +36,7 @@ module _ (s : List ℕ) where
       (to-fits at e _ (omega arith)))
       (string-reach s a))
 
-  pub mark-fits : (at : ℕ) → at ≤ N → Fits s at (mark s at)
+  pub mark-fits : (at : ℕ) → at ≤ N → FitsFrom partKinds s at (mark s at)
   unfolding mark
   mark-fits at h =
       let b = blanks s at in
@@ -45,6 +45,6 @@ module _ (s : List ℕ) where
       (tag-and s N at b _ (λ m e p q. to-fits at e _ (omega arith)) (tag-reach s b))
       (link-and s N at b _ (λ m e p q. to-fits at e _ (omega arith)) (link-reach s b))
 
-  pub marks-fits : (at : ℕ) → at ≤ N → Fits s at (marks s at)
+  pub marks-fits : (at : ℕ) → at ≤ N → FitsFrom partKinds s at (marks s at)
   unfolding marks
   marks-fits at h = many-fits N (mark s) (mark-reach s) mark-fits (suc N) at h

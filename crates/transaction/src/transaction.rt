@@ -24,7 +24,7 @@ ghost use Rattle.row.specs.Row.{pourAt};
 ghost use Rattle.row.specs.Details.{laid};
 ghost use Rattle.row.specs.steps.Writing.{noted, Did};
 ghost use Rattle.transaction.specs.Transaction.{opening, mark, marks, transaction};
-ghost use Rattle.transaction.specs.steps.Heads.{txnRan, linkMark, gapString, secondText, textsOf, linesOf, markedOf, textedOf};
+ghost use Rattle.transaction.specs.steps.Heads.{txnRan, linkMark, gapString, secondText, textsOf, markedOf, textedOf, headOf};
 
 // A row that spans a text.
 fn emit_span(kind: usize, start: usize, end: usize, base: usize, table: &mut [u8], out: Out) -> Out
@@ -162,20 +162,7 @@ fn marks_at(s: &[u8], at: usize, base: usize, table: &mut [u8], out: Out) -> Ran
     Ran::To(i, o)
 }
 
-// After the head's line: metadata, then postings and empty lines.
-fn lines_at(s: &[u8], at: usize, base: usize, table: &mut [u8], out: Out) -> Ran
-    requires { ⌜ (base ≤ 16777216) × (length (now s) ≤ 16777216) × (at ≤ length (now s)) × (out .rows ≤ at) ⌝ }
-    ensures { λ r. ⌜ Did base (linesOf (now (s .entry)) at) out (now (table .entry)) (now (table .exit)) r ⌝ }
-{
-    let m = metadata::metadata_at(s, at, base, table, out);
-    match m {
-        Ran::To(e, o) => body::body_at(s, e, base, table, o),
-        Ran::Miss => Ran::Miss,
-        Ran::Hard(k, p) => Ran::Hard(k, p),
-    }
-}
-
-// After the strings: tags and links, line end (required), and the lines.
+// After the strings: tags and links, line end (required), metadata.
 fn marked_at(s: &[u8], at: usize, base: usize, table: &mut [u8], out: Out) -> Ran
     requires { ⌜ (base ≤ 16777216) × (length (now s) ≤ 16777216) × (at ≤ length (now s)) × (out .rows ≤ at) ⌝ }
     ensures { λ r. ⌜ Did base (markedOf (now (s .entry)) at) out (now (table .entry)) (now (table .exit)) r ⌝ }
@@ -185,7 +172,7 @@ fn marked_at(s: &[u8], at: usize, base: usize, table: &mut [u8], out: Out) -> Ra
         Ran::To(e, o) => {
             let l = line::line_end(s, e);
             match l {
-                Read::To(f) => lines_at(s, f, base, table, o),
+                Read::To(f) => metadata::metadata_at(s, f, base, table, o),
                 Read::Miss => Ran::Hard(4, e),
             }
         }
@@ -194,7 +181,7 @@ fn marked_at(s: &[u8], at: usize, base: usize, table: &mut [u8], out: Out) -> Ra
     }
 }
 
-// After the opening: strings, tags and links, line end, and the lines.
+// After the opening: strings, tags and links, line end, metadata.
 fn texted_at(s: &[u8], at: usize, base: usize, table: &mut [u8], out: Out) -> Ran
     requires { ⌜ (base ≤ 16777216) × (length (now s) ≤ 16777216) × (at ≤ length (now s)) × (out .rows ≤ at) ⌝ }
     ensures { λ r. ⌜ Did base (textedOf (now (s .entry)) at) out (now (table .entry)) (now (table .exit)) r ⌝ }
@@ -207,14 +194,27 @@ fn texted_at(s: &[u8], at: usize, base: usize, table: &mut [u8], out: Out) -> Ra
     }
 }
 
+// A transaction up to its postings.
+pub fn head_at(s: &[u8], at: usize, base: usize, table: &mut [u8], out: Out) -> Ran
+    requires { ⌜ (base ≤ 16777216) × (length (now s) ≤ 16777216) × (at ≤ length (now s)) × (out .rows ≤ at) ⌝ }
+    ensures { λ r. ⌜ Did base (headOf (now (s .entry)) at) out (now (table .entry)) (now (table .exit)) r ⌝ }
+{
+    let x = opening_at(s, at, base, table, out);
+    match x {
+        Ran::To(e, o) => texted_at(s, e, base, table, o),
+        Ran::Miss => Ran::Miss,
+        Ran::Hard(k, p) => Ran::Hard(k, p),
+    }
+}
+
 // Rule 11.
 pub fn transaction_at(s: &[u8], at: usize, base: usize, table: &mut [u8], out: Out) -> Ran
     requires { ⌜ (base ≤ 16777216) × (length (now s) ≤ 16777216) × (at ≤ length (now s)) × (out .rows ≤ at) ⌝ }
     ensures { λ r. ⌜ Did base (transaction (now (s .entry)) at) out (now (table .entry)) (now (table .exit)) r ⌝ }
 {
-    let x = opening_at(s, at, base, table, out);
+    let x = head_at(s, at, base, table, out);
     match x {
-        Ran::To(e, o) => texted_at(s, e, base, table, o),
+        Ran::To(e, o) => body::body_at(s, e, base, table, o, s.len() + 1),
         Ran::Miss => Ran::Miss,
         Ran::Hard(k, p) => Ran::Hard(k, p),
     }

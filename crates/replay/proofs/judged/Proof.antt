@@ -36,6 +36,9 @@ same-length c = search needs
 same-length-2 : tie.Need-same-length-2
 same-length-2 c = search needs
 
+same-length-3 : tie.Need-same-length-3
+same-length-3 c = search needs
+
 returns : tie.Need-returns
 returns c = search (needs, body-laws)
 
@@ -54,4 +57,5 @@ judged-spec =
     judged-requires
     same-length
     same-length-2
+    same-length-3
     returns)

@@ -36,9 +36,9 @@ must-of-requires c κs = search needs
 
 whole-requires : tie.Need-whole-requires
 whole-requires c κs =
-    let k = c .before .before .before .before .before .before .before .before .case-of .result in
-    let h = within-limit (k .first) (k .second) (k .lent) _ (c .before .before .before .before .before .before .before .fits2 .ensures) (c .before .before .before .before .before .before .if3 .taken) in
-    (omega arith, omega arith, omega arith, omega arith)
+    let k = c .before .before .before .before .before .before .before .before .before .case-of .result in
+    let h = within-limit (k .first) (k .second) (k .lent) _ (c .before .before .before .before .before .before .before .before .fits2 .ensures) (c .before .before .before .before .before .before .before .if3 .taken) in
+    (omega arith, omega arith, omega arith, omega arith, omega arith, omega arith)
 
 returns-3 : tie.Need-returns-3
 returns-3 c = search needs

@@ -4,11 +4,11 @@ use Rattle.replay.proofs.replayed.Statement.{statement}
 use Rattle.replay.proofs.replayed.Tie as tie
 
 abbrev Inv-loop : tie.InvT-loop
-Inv-loop texts₀ lent₀ spare₀ after₀ cases₀ differing₀ texts lent spare after cases differing =
+Inv-loop texts₀ lent₀ spare₀ work₀ after₀ cases₀ differing₀ texts lent spare work after cases differing =
     differing ≤ cases
 
 abbrev μ-loop : tie.MeasureT-loop
-μ-loop texts₀ lent₀ spare₀ after₀ cases₀ differing₀ texts lent spare after cases differing =
+μ-loop texts₀ lent₀ spare₀ work₀ after₀ cases₀ differing₀ texts lent spare work after cases differing =
     18446744073709551615 - cases
 
 loop-holds : tie.Need-loop-holds Inv-loop μ-loop

@@ -12,8 +12,7 @@ use Rattle.amount.specs.Details.{Rows, span}
 use Rattle.row.specs.declared.writer.Out.{Out}
 use Rattle.row.specs.declared.writer.Ran.{Ran}
 use Rattle.posting.specs.Metadata.{metadata}
-use Rattle.posting.specs.Postings.{body}
-use Rattle.transaction.specs.Transaction.{texts, marks}
+use Rattle.transaction.specs.Transaction.{opening, texts, marks}
 use Rattle.transaction.specs.declared.transaction.GapString.{GapString}
 
 -- a word that makes no row
@@ -45,11 +44,12 @@ textsOf s at = maybe at (texts s at)
 unfoldable pub linkMark : List ℕ → ℕ → Rows
 linkMark s b = link s b and λ e. To e (span 24 (b + 1) e ∷ [])
 
-unfoldable pub linesOf : List ℕ → ℕ → Rows
-linesOf s at = metadata s at and λ e. body s e
-
 unfoldable pub markedOf : List ℕ → ℕ → Rows
-markedOf s at = marks s at and λ c. must c (lineEnd s c) and λ d. linesOf s d
+markedOf s at = marks s at and λ c. must c (lineEnd s c) and λ d. metadata s d
 
 unfoldable pub textedOf : List ℕ → ℕ → Rows
 textedOf s at = textsOf s at and λ b. markedOf s b
+
+-- all but the postings
+unfoldable pub headOf : List ℕ → ℕ → Rows
+headOf s at = opening s at and λ a. textedOf s a

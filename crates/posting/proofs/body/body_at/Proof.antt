@@ -1,17 +1,18 @@
-use Prim.Native.Nat.{_-_}
 use lib.ListN.{length}
-use Rattle.posting.specs.Postings.{bodyStep, body}
-use Rattle.posting.proofs.ManyLaws.{Runs}
+use Rattle.text.specs.Answer.{many}
+use Rattle.posting.specs.Postings.{bodyStep}
+use Rattle.posting.proofs.ManyLaws.{Turns}
 use Rattle.posting.proofs.BodyWrites.{body-laws}
 use borrow.Author.Needs.{needs}
 use Rattle.posting.proofs.body.body_at.Statement.{statement}
 use Rattle.posting.proofs.body.body_at.Tie as tie
 
 abbrev Inv-loop : tie.InvT-loop
-Inv-loop s at base table₀ i₀ o₀ table i o = Runs base (length s) (bodyStep s) (body s at) o₀ table₀ i o table
+Inv-loop s at base table₀ most i₀ o₀ left₀ table i o left =
+    Turns base (length s) (bodyStep s) (many (bodyStep s) most at) o₀ table₀ left i o table
 
 abbrev μ-loop : tie.MeasureT-loop
-μ-loop s at base table₀ i₀ o₀ table i o = length s - i
+μ-loop s at base table₀ most i₀ o₀ left₀ table i o left = left
 
 loop-holds : tie.Need-loop-holds Inv-loop μ-loop
 loop-holds c = search (needs, body-laws)
@@ -21,6 +22,9 @@ body-step-requires c κs = search (needs, body-laws)
 
 enum-known-x : tie.Need-enum-known-x Inv-loop μ-loop
 enum-known-x c = search (needs, body-laws)
+
+sub-left : tie.Need-sub-left Inv-loop μ-loop
+sub-left c = search (needs, body-laws)
 
 loop-less : tie.Need-loop-less Inv-loop μ-loop
 loop-less c = search (needs, body-laws)
@@ -61,6 +65,7 @@ body-at-spec =
     loop-holds
     body-step-requires
     enum-known-x
+    sub-left
     loop-less
     loop-again
     enum-told

@@ -57,6 +57,9 @@ lumbrisse-expression-exact-requires c κs = search needs
 of-evaluated-requires-2 : tie.Need-of-evaluated-requires-2
 of-evaluated-requires-2 c κs = search needs
 
+totalled-requires : tie.Need-totalled-requires
+totalled-requires c κs = search needs
+
 lumbrisse-expression-stacked-requires : tie.Need-lumbrisse-expression-stacked-requires
 lumbrisse-expression-stacked-requires c κs = search needs
 
@@ -126,35 +129,47 @@ returns-8 c = search (needs, made-laws)
 returns-9 : tie.Need-returns-9
 returns-9 c = search (needs, made-laws)
 
+same-length-7 : tie.Need-same-length-7
+same-length-7 c = search needs
+
+same-length-8 : tie.Need-same-length-8
+same-length-8 c = search needs
+
+same-length-9 : tie.Need-same-length-9
+same-length-9 c = search needs
+
 returns-10 : tie.Need-returns-10
 returns-10 c = search (needs, made-laws)
 
 returns-11 : tie.Need-returns-11
 returns-11 c = search (needs, made-laws)
 
-same-length-7 : tie.Need-same-length-7
-same-length-7 c = search needs
-
 returns-12 : tie.Need-returns-12
 returns-12 c = search (needs, made-laws)
-
-same-length-8 : tie.Need-same-length-8
-same-length-8 c = search needs
-
-returns-13 : tie.Need-returns-13
-returns-13 c = search (needs, made-laws)
-
-same-length-9 : tie.Need-same-length-9
-same-length-9 c = search needs
 
 same-length-10 : tie.Need-same-length-10
 same-length-10 c = search needs
 
+returns-13 : tie.Need-returns-13
+returns-13 c = search (needs, made-laws)
+
+same-length-11 : tie.Need-same-length-11
+same-length-11 c = search needs
+
 returns-14 : tie.Need-returns-14
 returns-14 c = search (needs, made-laws)
 
+same-length-12 : tie.Need-same-length-12
+same-length-12 c = search needs
+
+same-length-13 : tie.Need-same-length-13
+same-length-13 c = search needs
+
 returns-15 : tie.Need-returns-15
 returns-15 c = search (needs, made-laws)
+
+returns-16 : tie.Need-returns-16
+returns-16 c = search (needs, made-laws)
 
 pub made-spec : {M : Type 1} → statement M
 made-spec =
@@ -178,6 +193,7 @@ made-spec =
     of-reply-requires-6
     lumbrisse-expression-exact-requires
     of-evaluated-requires-2
+    totalled-requires
     lumbrisse-expression-stacked-requires
     of-evaluated-requires-3
     lumbrisse-expression-stacked-exact-requires
@@ -201,13 +217,17 @@ made-spec =
     same-length-6
     returns-8
     returns-9
+    same-length-7
+    same-length-8
+    same-length-9
     returns-10
     returns-11
-    same-length-7
     returns-12
-    same-length-8
-    returns-13
-    same-length-9
     same-length-10
+    returns-13
+    same-length-11
     returns-14
-    returns-15)
+    same-length-12
+    same-length-13
+    returns-15
+    returns-16)

@@ -15,8 +15,8 @@ line-end-requires c κs = search (needs, marked-laws)
 enum-known-l : tie.Need-enum-known-l
 enum-known-l c = search (needs, marked-laws)
 
-lines-at-requires : tie.Need-lines-at-requires
-lines-at-requires c κs = search (needs, marked-laws)
+metadata-at-requires : tie.Need-metadata-at-requires
+metadata-at-requires c κs = search (needs, marked-laws)
 
 enum-told : tie.Need-enum-told
 enum-told c = search (needs, marked-laws)
@@ -59,7 +59,7 @@ marked-at-spec =
     enum-known-m
     line-end-requires
     enum-known-l
-    lines-at-requires
+    metadata-at-requires
     enum-told
     enum-told-2
     enum-known-m-2

@@ -3,14 +3,17 @@ use borrow.Author.Needs.{needs}
 use Rattle.transaction.proofs.transaction.transaction_at.Statement.{statement}
 use Rattle.transaction.proofs.transaction.transaction_at.Tie as tie
 
-opening-at-requires : tie.Need-opening-at-requires
-opening-at-requires c κs = search (needs, transaction-laws)
+head-at-requires : tie.Need-head-at-requires
+head-at-requires c κs = search (needs, transaction-laws)
 
 enum-known-x : tie.Need-enum-known-x
 enum-known-x c = search (needs, transaction-laws)
 
-texted-at-requires : tie.Need-texted-at-requires
-texted-at-requires c κs = search (needs, transaction-laws)
+add-body-at : tie.Need-add-body-at
+add-body-at c = search (needs, transaction-laws)
+
+body-at-requires : tie.Need-body-at-requires
+body-at-requires c κs = search (needs, transaction-laws)
 
 enum-told : tie.Need-enum-told
 enum-told c = search (needs, transaction-laws)
@@ -40,9 +43,10 @@ pub transaction-at-spec : {M : Type 1} → statement M
 transaction-at-spec =
     tie.close
     (tie.spec
-    opening-at-requires
+    head-at-requires
     enum-known-x
-    texted-at-requires
+    add-body-at
+    body-at-requires
     enum-told
     enum-known-x-2
     same-length

@@ -1,0 +1,12 @@
+pub mod Orders
+pub mod SortLaws
+pub mod CompareLaws
+pub mod RecordLaws
+pub mod MergeLaws
+pub mod HalfLaws
+pub mod SumLaws
+pub mod GroupLaws
+pub mod RunLaws
+pub mod PermLaws
+pub mod SaidLaws
+pub mod ClaimsProved

@@ -1,0 +1,168 @@
+-- Laws of the exact sum.
+use Prim.Native.Nat.{ℕ, _+_, _-_, _*_, _/_, _^_, _≤_, _<_}
+use native.Mathlib.Omega.{arith}
+use native.Mathlib.Nat.{sub-zero}
+use mathlib.Core.Path.{_≡_, sym, ap, _∙_}
+use mathlib.Core.Bool.{true, false}
+use mathlib.Core.List.{List, map}
+use borrow.Author.Tests.{lt-ltb, le-ltb, le-leb, lt-leb}
+use lib.IntN.{ℤ, pos, negℤ, _+ℤ_, _-ℤ_, +ℤ-assoc, +ℤ-comm, +ℤ-idr, +ℤ-idl, +ℤ-invr, +ℤ-negℤ-cancel}
+use lib.ListN.{length}
+use Rattle.decimal.specs.declared.Value.{Value}
+use Rattle.decimal.specs.declared.Value.the-variants.{Refused}
+use Rattle.decimal.specs.Exact.{exact, exactly}
+use Rattle.decimal.specs.steps.Judged.{judgedOf, total}
+use Rattle.decimal.proofs.Laws.{exact-large, ones-is}
+use Rattle.decimal.proofs.Whole.{total-met}
+use Rattle.row.specs.declared.table.Row.{Row}
+use Rattle.row.specs.Row.{rowIn}
+use Rattle.order.specs.declared.sum.Wide.{Wide}
+use Rattle.order.specs.Sorted.{recordAt, recordsFrom, recordsOf}
+use Rattle.order.specs.Sums.{wholeFrom, sumOf, summed}
+use Rattle.order.specs.steps.Wide.{size, held}
+use Rattle.order.proofs.RecordLaws.{records-step, records-none}
+
+-- the value in a record's bytes
+abbrev pub valueIn : List ℕ → ℤ
+valueIn b = wholeFrom (rowIn b .bits)
+
+-- ---- the number held in two words
+
+add-in : (a d z s : ℤ) → (a +ℤ d) +ℤ (z +ℤ s) ≡ ((a +ℤ z) +ℤ d) +ℤ s
+add-in a d z s =
+    sym (+ℤ-assoc (a +ℤ d) z s)
+    ∙ ap (λ (x : ℤ). x +ℤ s) (+ℤ-assoc a d z ∙ ap (λ (x : ℤ). a +ℤ x) (+ℤ-comm d z) ∙ sym (+ℤ-assoc a z d))
+
+module _ (w : Wide) (x : ℕ) where
+  pub plus-room : size (record { high = w .high; low = w .low + x }) ≡ size w + x
+  unfolding size
+  plus-room = omega arith
+
+  pub plus-carry : w .low < 2 ^ 64 → 18446744073709551615 - w .low < x
+      → size (record { high = w .high + 1; low = x - (18446744073709551615 - w .low) - 1 }) ≡ size w + x
+  unfolding size
+  plus-carry l h = omega arith
+
+  pub less-room : x ≤ w .low → size (record { high = w .high; low = w .low - x }) + x ≡ size w
+  unfolding size
+  less-room h = omega arith
+
+  pub less-borrow : 1 ≤ w .high → w .low < x → x < 2 ^ 64 → size (record { high = w .high - 1; low = 18446744073709551615 - (x - w .low) + 1 }) + x ≡ size w
+  unfolding size
+  less-borrow h l b =
+      let e : w .high * 18446744073709551616 ≡ (w .high - 1) * 18446744073709551616 + 18446744073709551616 = borrow (w .high) h in
+      let f : 18446744073709551615 - (x - w .low) + 1 + x ≡ 18446744073709551616 + w .low = omega arith in
+      rw e (omega (arith, f))
+    where
+      borrow : (k : ℕ) → 1 ≤ k → k * 18446744073709551616 ≡ (k - 1) * 18446744073709551616 + 18446744073709551616
+      borrow k g = omega arith
+
+pub ruleset word-laws = (plus-room, plus-carry, less-room, less-borrow)
+
+module _ (n : ℕ) (w r : Wide) (x : ℕ) (s : ℤ) where
+  held-plus : size r ≡ size w + x → held n w +ℤ (pos x +ℤ s) ≡ held n r +ℤ s
+  unfolding held
+  held-plus e =
+      let z = negℤ (pos (n * 18446744073709551616)) in
+      add-in (pos (size w)) z (pos x) s ∙ ap (λ (m : ℕ). (pos m +ℤ z) +ℤ s) (sym e)
+
+  held-less : size r + x ≡ size w → held n w +ℤ (negℤ (pos x) +ℤ s) ≡ held n r +ℤ s
+  unfolding held
+  held-less e =
+      let z = negℤ (pos (n * 18446744073709551616)) in
+      add-in (pos (size w)) z (negℤ (pos x)) s
+      ∙ ap (λ (y : ℤ). (y +ℤ z) +ℤ s) (ap (λ (m : ℕ). pos m -ℤ pos x) (sym e) ∙ +ℤ-negℤ-cancel (pos (size r)) (pos x))
+
+module _ (n : ℕ) (w : Wide) (l : w .low < 2 ^ 64) where
+  over : (r : Value) → n * 18446744073709551616 ≤ size w → r ≡ exact false (size w - n * 18446744073709551616) 1 → r ≡ exactly (held n w) 1
+  unfolding held total
+  over r h e = total-met r false true (size w) (n * 18446744073709551616) (rw (le-leb (n * 18446744073709551616) (size w) h) e)
+
+  under : (r : Value) → size w < n * 18446744073709551616 → r ≡ exact true (n * 18446744073709551616 - size w) 1 → r ≡ exactly (held n w) 1
+  unfolding held total
+  under r h e = total-met r false true (size w) (n * 18446744073709551616) (rw (lt-leb (n * 18446744073709551616) (size w) h) e)
+
+  pub held-up : (r : Value) → w .high ≡ n → r ≡ judgedOf false (w .low) 0 → r ≡ exactly (held n w) 1
+  unfolding size
+  held-up r h e =
+      let d : size w - n * 18446744073709551616 ≡ w .low = omega arith in
+      over r (omega arith) (rw d (e ∙ ones-is false (w .low)))
+
+  pub held-down : (r : Value) → w .high < n → n - w .high ≡ 1 → 0 < w .low → r ≡ judgedOf true (18446744073709551615 - w .low + 1) 0 → r ≡ exactly (held n w) 1
+  unfolding size
+  held-down r h o k e =
+      let d : n * 18446744073709551616 - size w ≡ 18446744073709551615 - w .low + 1 = omega arith in
+      under r (omega arith) (rw d (e ∙ ones-is true (18446744073709551615 - w .low + 1)))
+
+  pub far-up : (w .high ≡ n → ⊥) → n ≤ w .high → Refused 6 ≡ exactly (held n w) 1
+  unfolding size
+  far-up h k = over (Refused 6) (omega arith) (sym (exact-large false (size w - n * 18446744073709551616) 1 (omega arith)))
+
+  pub far-down : w .high < n → (n - w .high ≡ 1 → ⊥) → Refused 6 ≡ exactly (held n w) 1
+  unfolding size
+  far-down h k = under (Refused 6) (omega arith) (sym (exact-large true (n * 18446744073709551616 - size w) 1 (omega arith)))
+
+  pub just-down : w .high < n → n - w .high ≡ 1 → w .low ≤ 0 → Refused 6 ≡ exactly (held n w) 1
+  unfolding size
+  just-down h o k = under (Refused 6) (omega arith) (sym (exact-large true (n * 18446744073709551616 - size w) 1 (omega arith)))
+
+pub ruleset held-laws = (held-up, held-down, far-up, far-down, just-down)
+
+-- ---- the loop: w holds the sum of the values of the records before record i
+
+pub record Summing (t : List ℕ) (w : Wide) (i : ℕ) : Type 0 where
+  pub whole : sumOf (map valueIn (recordsOf t)) ≡ held (length t / 32) w +ℤ sumOf (map valueIn (recordsFrom t i (length t / 32 - i)))
+  pub most : w .high ≤ length t / 32 + i
+  pub least : length t / 32 ≤ w .high + i
+  pub within : i ≤ length t / 32
+
+pub sum-start : (t : List ℕ) (w : Wide) → w .high ≡ length t / 32 → w .low ≡ 0 → Summing t w 0
+unfolding held size
+sum-start t w h l =
+    let n = length t / 32 in
+    let e : size w ≡ n * 18446744073709551616 = omega arith in
+    let v = sumOf (map valueIn (recordsFrom t 0 n)) in
+    record {
+      whole = sym (ap (λ (m : ℕ). held n w +ℤ sumOf (map valueIn (recordsFrom t 0 m))) (sub-zero n)
+          ∙ ap (λ (m : ℕ). (pos m -ℤ pos (n * 18446744073709551616)) +ℤ v) e ∙ ap (λ (z : ℤ). z +ℤ v) (+ℤ-invr (pos (n * 18446744073709551616))) ∙ +ℤ-idl v);
+      most = omega arith;
+      least = omega arith;
+      within = omega arith;
+    }
+
+module _ (t : List ℕ) (w : Wide) (i : ℕ) (e : Summing t w i) where
+  pub sum-end : (r : Value) (c : ℕ) → length t / 32 ≤ i → c ≡ length t / 32 → r ≡ exactly (held c w) 1 → r ≡ summed (map valueIn (recordsOf t))
+  unfolding summed sumOf
+  sum-end r c h f k = (rw f at k) ∙ ap (λ (z : ℤ). exactly z 1) (sym (e .whole ∙ rw (records-none t i (length t / 32) h) (+ℤ-idr (held (length t / 32) w))))
+
+  module _ (h : i < length t / 32) (b : Row) (eb : b ≡ rowIn (recordAt t i)) (n : ℕ) (en : n ≡ b .bits) where
+    value-there : (z : ℤ) → wholeFrom n ≡ z
+        → sumOf (map valueIn (recordsOf t)) ≡ held (length t / 32) w +ℤ (z +ℤ sumOf (map valueIn (recordsFrom t (i + 1) (length t / 32 - (i + 1)))))
+    unfolding sumOf
+    value-there z ez =
+        let v : valueIn (recordAt t i) ≡ z = rw (← eb, ← en) ez in
+        e .whole ∙ rw (records-step t i (length t / 32) h, v)
+
+    module _ (r : Wide) where
+      pub sum-plus : n < 9223372036854775808 → (size r ≡ size w + n) × (w .high ≤ r .high) × (r .high ≤ w .high + 1) → Summing t r (i + 1)
+      unfolding wholeFrom
+      sum-plus l k =
+          record {
+            whole = value-there (pos n) (rw (lt-ltb n 9223372036854775808 l)) ∙ held-plus (length t / 32) w r n _ (k .0);
+            most = omega arith;
+            least = omega arith;
+            within = omega arith;
+          }
+
+      pub sum-less : n < 2 ^ 64 → 9223372036854775808 ≤ n → (size r + (18446744073709551615 - n + 1) ≡ size w) × (r .high ≤ w .high) × (w .high ≤ r .high + 1) → Summing t r (i + 1)
+      unfolding wholeFrom
+      sum-less b l k =
+          let x : 18446744073709551616 - n ≡ 18446744073709551615 - n + 1 = omega arith in
+          record {
+            whole = value-there (negℤ (pos (18446744073709551615 - n + 1))) (rw (le-ltb n 9223372036854775808 l, x)) ∙ held-less (length t / 32) w r (18446744073709551615 - n + 1) _ (k .0);
+            most = omega arith;
+            least = omega arith;
+            within = omega arith;
+          }
+
+pub ruleset sum-laws = (sum-start, sum-end, sum-plus, sum-less)

@@ -1,0 +1,7 @@
+pub mod Sums
+pub mod Order
+pub mod Sorted
+pub mod Groups
+pub mod Claims
+pub mod steps
+pub mod Examples

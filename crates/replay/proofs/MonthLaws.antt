@@ -1,0 +1,139 @@
+-- Totals, whose working spaces stand one behind the other in a case: each is lent in a buffer of its own.
+use Prim.Native.Nat.{ℕ, _+_, _-_, _≤_, _<_}
+use native.Mathlib.Omega.{arith}
+use mathlib.Core.Path.{_≡_, sym, _∙_, ap}
+use mathlib.Core.Bool.{Bool, true, false, _&&_}
+use mathlib.Core.List.{List, _++_}
+use borrow.Author.Tests.{le-leb, lt-leb, ne-eqb}
+use borrow.Rule.Slice.PartMut.{putMid}
+use lib.ListN.{length, getD, take, drop, length-drop, drop-of-length-le}
+use lib.Seq.{take-at, take-all, length-take-le}
+use Rattle.text.proofs.Steps.{drop-step}
+use Rattle.access.specs.Tables.{same}
+use Rattle.ledger.specs.Plain.{plain}
+use Rattle.ledger.proofs.ScanLaws.{rest-of}
+use Rattle.totals.specs.Totals as totals
+use Rattle.lumbrisse.specs.Promises.{TotalsPromise}
+use Rattle.lumbrisse.specs.declared.reply as box
+use Rattle.replay.specs.declared.case.Case.{Case}
+use Rattle.replay.specs.declared.call.Outcome.{Outcome}
+use Rattle.replay.specs.Replies.{zeros, wiped, bothWiped, totalsOf, ofTotals, totalled, totalledLeft}
+
+-- ---- zeros: z is what is left to be seen from i on
+
+module _ (z : Bool) (s : List ℕ) (i : ℕ) (v : z ≡ zeros (drop i s)) where
+  pub zeros-on : i < length s → getD s i 0 ≡ 0 → z ≡ zeros (drop (i + 1) s)
+  unfolding zeros
+  zeros-on h e = v ∙ rw (drop-step s i h, e)
+
+  pub zeros-stop : i < length s → (getD s i 0 ≡ 0 → ⊥) → false ≡ z
+  unfolding zeros
+  zeros-stop h n = sym (v ∙ rw (drop-step s i h, ne-eqb (getD s i 0) 0 n))
+
+  pub zeros-end : length s ≤ i → true ≡ z
+  unfolding zeros
+  zeros-end h = sym (v ∙ rw (drop-of-length-le s {i = i} h))
+
+pub ruleset zeros-laws = (zeros-on, zeros-stop, zeros-end)
+
+-- ---- a working space, x before and y after the call
+
+module _ (x y : List ℕ) (d : ℕ) where
+  pub wiped-short : length x < d → false ≡ wiped d x y
+  wiped-short h = rw (lt-leb d (length x) h)
+
+  module _ (h : d ≤ length x) where
+    pub wiped-cut : length y < d → false ≡ wiped d x y
+    wiped-cut k = rw (le-leb d (length x) h, lt-leb d (length y) k)
+
+    module _ (k : d ≤ length y) (z : Bool) (ez : z ≡ zeros (take (d - 0) (drop 0 y))) where
+      zero-is : zeros (take d y) ≡ z
+      zero-is = let n : d - 0 ≡ d = omega arith in sym (ez ∙ ap (λ (i : ℕ). zeros (take i y)) n)
+
+      pub wiped-not : z ≡ false → false ≡ wiped d x y
+      wiped-not e = rw (le-leb d (length x) h, le-leb d (length y) k, zero-is, e)
+
+      pub wiped-same : z ≡ true → (q : Bool) → q ≡ same (take (length y - d) (drop d y)) (take (length x - d) (drop d x)) → q ≡ wiped d x y
+      wiped-same e q eq = eq ∙ rw (rest-of y d, rest-of x d, le-leb d (length x) h, le-leb d (length y) k, zero-is, e)
+
+-- both, by parts of the buffers as they are lent on
+pub both-wiped : (u y z : List ℕ) (n d m : ℕ) → m ≡ length u - n → (p q : Bool)
+    → p ≡ wiped d (take (n - 0) (drop 0 u)) (take (n - 0) (drop 0 y)) → q ≡ wiped d (take (length u - n) (drop n u)) (take (m - 0) (drop 0 z)) → (p && q) ≡ bothWiped n d u y z
+both-wiped u y z n d m em p q ep eq =
+    let k : n - 0 ≡ n = omega arith in
+    let l : m - 0 ≡ length u - n = omega arith in
+    rw (ep, eq, k, l, rest-of u n)
+
+pub ruleset kept-parts = (both-wiped)
+
+pub ruleset wiped-laws = (wiped-short, wiped-cut, wiped-not, wiped-same)
+
+module _ (r : box.Reply.Reply) (kept : Bool) where
+  pub reply-kept : kept ≡ true
+      → Outcome.Answered (record { number = r .number; place = r .place; count = r .count; value = 0; tag = 0 }) ≡ Outcome.Answered (ofTotals r kept)
+  reply-kept e = rw e
+
+  pub reply-lost : kept ≡ false
+      → Outcome.Answered (record { number = r .number; place = r .place; count = r .count; value = 0; tag = 1 }) ≡ Outcome.Answered (ofTotals r kept)
+  reply-lost e = rw e
+
+pub ruleset kept-laws = (reply-kept, reply-lost)
+
+-- ---- a buffer x with the part p of n bytes in its front: that part is lent, and comes back as v
+
+front-lent : (p x w : List ℕ) (n : ℕ) → length p ≡ n → w ≡ p ++ drop n x → take (n - 0) (drop 0 w) ≡ p
+front-lent p x w n l e = let k : n - 0 ≡ n = omega arith in rw (k, e) (take-at p (drop n x) n l)
+
+front-back : (w v : List ℕ) (n : ℕ) → length v ≡ n → take n (putMid 0 (n - 0) w v) ≡ v
+front-back w v n l = let k : n - 0 ≡ n = omega arith in rw k (take-at v (drop n w) n l)
+
+module _ (c : Case) (s u t : List ℕ) where
+  pub totals-unknown : length u < c .c → Outcome.Unknown ≡ totalled c s u t
+  totals-unknown h = rw (lt-leb (c .c) (length u) h)
+
+  pub left-unknown-totals : length u < c .c → t ≡ totalledLeft c s u t
+  left-unknown-totals h = rw (lt-leb (c .c) (length u) h)
+
+  -- x and y are the buffers, a and b as the parts are copied to their fronts, v and w what is left of the parts
+  module _ (h : c .c ≤ length u) (m : ℕ) (em : m ≡ length u - c .c) (x y a b v w t′ : List ℕ)
+      (ea : a ≡ take (c .c) (drop 0 u) ++ drop (c .c) x) (eb : b ≡ take m (drop (c .c) u) ++ drop m y) where
+    part-one : take (c .c - 0) (drop 0 a) ≡ take (c .c) u
+    part-one = front-lent (take (c .c) u) x a (c .c) (length-take-le (c .c) u h) ea
+
+    rest-is : take m (drop (c .c) u) ≡ drop (c .c) u
+    rest-is = take-all m (drop (c .c) u) (rw length-drop (omega arith))
+
+    rest-long : length (drop (c .c) u) ≡ m
+    rest-long = rw length-drop (omega arith)
+
+    part-two : take (m - 0) (drop 0 b) ≡ drop (c .c) u
+    part-two = front-lent (take m (drop (c .c) u)) y b m (ap length rest-is ∙ rest-long) eb ∙ rest-is
+
+    module _ (r : box.Reply.Reply) (P : TotalsPromise s (c .a) (c .b) t (take (c .c - 0) (drop 0 a)) (take (m - 0) (drop 0 b)) r t′ v w) where
+      outcome-is : totals.decided s (c .a) (c .b) (length t) (length (take (c .c - 0) (drop 0 a))) (length (take (m - 0) (drop 0 b))) (plain s) ≡ totalsOf c s u t
+      outcome-is = rw (part-one, part-two)
+
+      one-left : v ≡ totals.workLeft (totalsOf c s u t) (take (c .c) u)
+      one-left = P .work ∙ rw (part-one, part-two)
+
+      other-left : w ≡ totals.workLeft (totalsOf c s u t) (drop (c .c) u)
+      other-left = P .spare ∙ rw (part-one, part-two)
+
+      pub totals-left : t′ ≡ totalledLeft c s u t
+      totals-left = P .items ∙ rw (part-one, part-two, le-leb (c .c) (length u) h)
+
+      pub totals-told : length v ≡ length (take (c .c - 0) (drop 0 a)) → length w ≡ length (take (m - 0) (drop 0 b)) → (kept : Bool)
+          → kept ≡ bothWiped (c .c) (c .d) u (putMid 0 (c .c - 0) a v) (putMid 0 (m - 0) b w)
+          → (o : Outcome) → o ≡ Outcome.Answered (ofTotals r kept) → o ≡ totalled c s u t
+      totals-told lv lw kept ek o e =
+          let ln : length v ≡ c .c = lv ∙ ap length part-one ∙ length-take-le (c .c) u h in
+          let lm : length w ≡ m = lw ∙ ap length part-two ∙ rest-long in
+          let D = totalsOf c s u t in
+          let one : take (c .c) (putMid 0 (c .c - 0) a v) ≡ take (c .c) (totals.workLeft D (take (c .c) u)) =
+          front-back a v (c .c) ln ∙ sym (take-all (c .c) v (omega (arith, ln))) ∙ ap (take (c .c)) one-left in
+          let other : take (length u - c .c) (putMid 0 (m - 0) b w) ≡ take (length u - c .c) (totals.workLeft D (drop (c .c) u)) =
+          ap (λ (i : ℕ). take i (putMid 0 (m - 0) b w)) (sym em) ∙ front-back b w m lm ∙ sym (take-all (length u - c .c) w (omega (arith, lm, em))) ∙ ap (take (length u - c .c)) other-left in
+          let both : kept ≡ bothWiped (c .c) (c .d) u (totals.workLeft D (take (c .c) u)) (totals.workLeft D (drop (c .c) u)) = ek ∙ rw (one, other) in
+          e ∙ rw (both, le-leb (c .c) (length u) h, P .reply, outcome-is)
+
+pub ruleset month-laws = (totals-unknown, left-unknown-totals, totals-left, totals-told)

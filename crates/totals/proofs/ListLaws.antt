@@ -1,0 +1,133 @@
+-- Laws of the listing: what the items' number tells, and that the front of a working space becomes zeros.
+use Prim.Native.Nat.{ℕ, suc, _+_, _*_, _/_, _≤_, _<_}
+use native.Mathlib.Omega.{arith}
+use mathlib.Core.Path.{_≡_, refl, sym, ap, _∙_}
+use mathlib.Core.Bool.{Bool, true, false, cond, not}
+use mathlib.Core.List.{List, [], _∷_, _++_, map, append-assoc}
+use mir.Syntax.{w64}
+use mir.Val.{Fits}
+use borrow.Author.Tests.{le-leb, lt-leb}
+use lib.ListN.{
+  length,
+  take,
+  drop,
+  set,
+  replicate,
+  replicate-append-replicate,
+  length-replicate,
+  length-append,
+  length-drop,
+  length-map,
+  length-set,
+}
+use lib.Seq.{set-split, take-at, drop-at, drop-drop}
+use Rattle.row.specs.Row.{rowsBytes, pour}
+use Rattle.row.proofs.PourLaws.{pour-all}
+use Rattle.order.specs.Order.{saidIn, by}
+use Rattle.order.specs.Sorted.{recordsOf}
+use Rattle.order.specs.Groups.{those, alike, heads, Item, itemOf, listed, counted}
+use Rattle.order.specs.declared.runs.Counted.{Counted}
+use Rattle.order.proofs.RecordLaws.{length-records}
+use Rattle.order.proofs.RunLaws.{placeIn}
+use Rattle.totals.specs.Totals.{cleared}
+use Rattle.totals.specs.steps.Listing.{itemRowIn, placed, itemsPut}
+use Rattle.totals.specs.declared.totals.Answer.{Answer}
+use Rattle.totals.proofs.JoinLaws.{counted-length}
+
+-- ---- the number of the items
+
+those-few : {A : Type 0} (p : A → Bool) (xs : List A) → length (those p xs) ≤ length xs
+unfolding those
+those-few p [] = omega arith
+those-few p (x ∷ xs) = go (p x) (those-few p xs)
+  where
+    go : (b : Bool) → length (those p xs) ≤ length xs → length (cond b (x ∷ those p xs) (those p xs)) ≤ suc (length xs)
+    go true h = omega arith
+    go false h = omega arith
+
+heads-few : {A : Type 0} (le : A → A → Bool) (xs : List A) → length (heads le xs) ≤ length xs
+unfolding heads
+heads-few le [] = omega arith
+heads-few le (x ∷ xs) = omega (arith, those-few (λ y. not (alike le x y)) (heads le xs), heads-few le xs)
+
+-- ---- the answer: c is what the count told
+
+module _ (s t u : List ℕ) (c : Counted) (e : c ≡ counted placeIn 0 (listed (saidIn s) (recordsOf t))) where
+  abbrev All : List (Item (List ℕ))
+  All = listed (saidIn s) (recordsOf t)
+
+  module _ (a : ℕ) (f : c ≡ Counted.Large a) where
+    pub list-large : (r : Answer) → r ≡ Answer.Refusal 6 a 0 → r ≡ placed (counted placeIn 0 All) (length u)
+    unfolding placed
+    list-large r q = q ∙ rw (← e, f)
+
+    pub list-large-left : u ≡ itemsPut (counted placeIn 0 All) (map itemRowIn All) u
+    unfolding itemsPut
+    list-large-left = rw (← e, f)
+
+  module _ (k : ℕ) (f : c ≡ Counted.Items k) where
+    number : k ≡ length All
+    number = counted-length placeIn 0 k All (sym e ∙ f) ∙ omega arith
+
+    few : k ≤ length t / 32
+    unfolding listed
+    few =
+        omega (
+          arith,
+          number,
+          length-map (heads (by (saidIn s)) (recordsOf t)) (itemOf (saidIn s) (recordsOf t)),
+          heads-few (by (saidIn s)) (recordsOf t),
+          length-records t 0 (length t / 32),
+        )
+
+    pub list-small : Fits w64 (length t) → Fits w64 (k * 32)
+    list-small h = omega (arith, few)
+
+    pub list-full : (r : Answer) → length u / 32 < k → r ≡ Answer.Refusal 9 0 (k * 32) → r ≡ placed (counted placeIn 0 All) (length u)
+    unfolding placed
+    list-full r h q = q ∙ rw (← e, f, lt-leb (k * 32) (length u) (omega arith))
+
+    pub list-full-left : length u / 32 < k → u ≡ itemsPut (counted placeIn 0 All) (map itemRowIn All) u
+    unfolding itemsPut
+    list-full-left h = rw (← e, f, lt-leb (k * 32) (length u) (omega arith))
+
+    pub list-items : k ≤ length u / 32 → Answer.Items k ≡ placed (counted placeIn 0 All) (length u)
+    unfolding placed
+    list-items h = rw (← e, f, le-leb (k * 32) (length u) (omega arith))
+
+    pub list-put : (v : List ℕ) → k ≤ length u / 32 → v ≡ pour (map itemRowIn All) u → v ≡ itemsPut (counted placeIn 0 All) (map itemRowIn All) u
+    unfolding itemsPut
+    list-put v h q =
+        let n : length (map itemRowIn All) ≡ k = length-map All itemRowIn ∙ sym number in
+        let p : pour (map itemRowIn All) u ≡ rowsBytes (map itemRowIn All) ++ drop (k * 32) u =
+        pour-all (map itemRowIn All) u (rw n (omega arith)) ∙ ap (λ (j : ℕ). rowsBytes (map itemRowIn All) ++ drop (j * 32) u) n in
+        q ∙ p ∙ rw (← e, f, le-leb (k * 32) (length u) (omega arith))
+
+pub ruleset list-laws = (list-large, list-large-left, list-small, list-full, list-full-left, list-items, list-put)
+
+-- ---- the working space: its first i bytes are zeros
+
+module _ (w₀ w : List ℕ) (i n : ℕ) (v : w ≡ cleared i w₀) where
+  pub clear-byte : i < n → n ≤ length w₀ → set w i 0 ≡ cleared (i + 1) w₀
+  unfolding cleared
+  clear-byte h l =
+      let z : List ℕ = replicate i 0 in
+      let lw : i < length w = rw (v, length-append, length-replicate, length-drop) (omega arith) in
+      let a : take i w ≡ z = rw v (take-at z (drop i w₀) i (length-replicate {A = ℕ} i 0)) in
+      let b : drop (suc i) w ≡ drop (i + 1) w₀ =
+      ap (λ (k : ℕ). drop k w) {x = suc i} {y = i + 1} (omega arith)
+      ∙ sym (drop-drop 1 i w)
+      ∙ rw (v, drop-at z (drop i w₀) i (length-replicate {A = ℕ} i 0)) (drop-drop 1 i w₀) in
+      rw (set-split w i 0 lw, a, b, ← replicate-append-replicate {A = ℕ} i 1 0) (sym (append-assoc z (0 ∷ []) (drop (i + 1) w₀)))
+
+  pub clear-end : i ≤ n → n ≤ i → w ≡ cleared n w₀
+  clear-end h l = let e : n ≡ i = omega arith in rw e v
+
+pub clear-start : (w : List ℕ) → w ≡ cleared 0 w
+unfolding cleared
+clear-start w = refl
+
+pub clear-length : (w₀ w : List ℕ) (a : ℕ) → length w ≡ length w₀ → length (set w a 0) ≡ length w₀
+clear-length w₀ w a e = rw length-set e
+
+pub ruleset clear-laws = (clear-start, clear-byte, clear-end, clear-length)

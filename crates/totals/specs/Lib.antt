@@ -1,0 +1,4 @@
+pub mod Totals
+pub mod Claims
+pub mod steps
+pub mod Examples

@@ -1,0 +1,3 @@
+-- What the code works out on the way. No definition that a reader must trust stands here.
+pub mod Listing
+pub mod Months

@@ -1,0 +1,70 @@
+// The items of sorted records: each is the first record of a run, with the run's number and sum.
+use decimal::Value;
+use order::compare;
+use order::runs;
+use row::table;
+use row::table::Row;
+use row::table::WIDTH;
+ghost use mathlib.Core.Path.{_≡_};
+ghost use mathlib.Core.List.{map};
+ghost use Prim.Native.Nat.{_/_, _<_};
+ghost use lib.ListN.{length};
+ghost use Rattle.decimal.specs.Exact.{twosOf};
+ghost use Rattle.row.specs.Details.{millionths};
+ghost use Rattle.row.specs.Row.{pour};
+ghost use Rattle.order.specs.Sorted.{Ordered, recordAt, recordsOf};
+ghost use Rattle.order.specs.Order.{saidIn, by};
+ghost use Rattle.order.specs.Groups.{listed};
+ghost use Rattle.totals.specs.steps.Listing.{headRow, itemRowIn};
+
+fn wide(n: u64) -> usize
+    ensures { λ r. ⌜ r ≡ n ⌝ }
+{
+    n as usize
+}
+
+// A sum's eight bytes.
+fn sum_bits(v: Value) -> usize
+    ensures { λ r. ⌜ r ≡ twosOf (millionths v) ⌝ }
+{
+    match v {
+        Value::Known(d) => wide(decimal::row_bits(d)),
+        Value::Refused(_) => 0,
+    }
+}
+
+// The row of the item whose first record is record i.
+fn head_row(t: &[u8], i: usize, count: usize, sum: Value) -> Row
+    requires { ⌜ i < length (now t) / 32 ⌝ }
+    ensures { λ r. ⌜ r ≡ headRow (recordAt (now (t .entry)) i) count sum ⌝ }
+{
+    let first = compare::row_at(t, i);
+    Row {
+        kind: first.kind,
+        start: first.start,
+        end: first.end,
+        line: count,
+        p: first.p,
+        q: first.q,
+        bits: sum_bits(sum),
+    }
+}
+
+// The items of a sorted buffer, one after the other, where they fit.
+pub fn put_items(s: &[u8], t: &[u8], items: &mut [u8])
+    requires { ⌜ Ordered (by (saidIn (now s))) (recordsOf (now t)) ⌝ }
+    ensures { λ _. ⌜ now (items .exit) ≡ pour (map itemRowIn (listed (saidIn (now (s .entry))) (recordsOf (now (t .entry))))) (now (items .entry)) ⌝ }
+{
+    let n = t.len() / WIDTH;
+    let mut i = 0;
+    let mut k = 0;
+    while i < n {
+        let run = runs::run_at(s, t, i);
+        let end = run.end;
+        let sum = run.sum;
+        let row = head_row(t, i, end - i, sum);
+        table::put_row(items, k, row);
+        i = end;
+        k += 1;
+    }
+}

@@ -1,0 +1,4 @@
+pub mod PostLaws
+pub mod SeenLaws
+pub mod EntryTurns
+pub mod LineTurns
