@@ -1,4 +1,4 @@
-//! The archive's fourteen functions, and the only unsafe code: each is called with pointer and length of a live slice.
+//! The archive's fifteen functions, and the only unsafe code: each is called with pointer and length of a live slice.
 #![allow(unsafe_code)]
 
 /// The answer of a call that reads or writes: number 0 is accepted.
@@ -125,6 +125,18 @@ mod archive {
             new_length: usize,
             table: *mut u8,
             table_length: usize,
+        ) -> Reply;
+        pub fn lumbrisse_totals(
+            ledger: *const u8,
+            ledger_length: usize,
+            year: usize,
+            month: usize,
+            items: *mut u8,
+            items_length: usize,
+            work: *mut u8,
+            work_length: usize,
+            spare: *mut u8,
+            spare_length: usize,
         ) -> Reply;
     }
 }
@@ -263,6 +275,33 @@ pub fn edit(
             new.len(),
             table.as_mut_ptr(),
             table.len(),
+        )
+    }
+}
+
+pub fn totals(
+    ledger: &[u8],
+    year: usize,
+    month: usize,
+    items: &mut [u8],
+    work: &mut [u8],
+    spare: &mut [u8],
+) -> Reply {
+    // SAFETY: the four slices live through the call and no two overlap, `items`, `work` and `spare` being borrowed
+    // mutably. The function is proved for any bytes, lengths, year and month: it reads within `ledger`, writes within
+    // the other three, and keeps no pointer.
+    unsafe {
+        archive::lumbrisse_totals(
+            ledger.as_ptr(),
+            ledger.len(),
+            year,
+            month,
+            items.as_mut_ptr(),
+            items.len(),
+            work.as_mut_ptr(),
+            work.len(),
+            spare.as_mut_ptr(),
+            spare.len(),
         )
     }
 }

@@ -1,9 +1,10 @@
-//! The calls that make their own table or packet.
+//! The calls that make their own table, packet or items.
 
 use std::vec::Vec;
 
 use crate::{
-    edit, packet, read, read_strict, recover, recover_strict, Edit, Refusal, ROW_BYTES, SIZE_LIMIT,
+    edit, packet, read, read_strict, recover, recover_strict, totals, Edit, Refusal, Short,
+    ROW_BYTES, SIZE_LIMIT, TOTAL_BYTES,
 };
 
 /// How many bytes of a ledger a first table has a row for; ledgers of readings need fewer rows.
@@ -98,6 +99,39 @@ pub fn edit_to_vec(
     grown(guess, ROW_BYTES, |table| {
         edit(ledger, rows, k, change, table)
     })
+}
+
+/// The totals of a month, in items of their own and with working space of their own; [`Totals`](crate::Totals) goes
+/// over them.
+///
+/// Refused as [`totals`] is; with 9 only where the memory for the need cannot be had.
+///
+/// ```
+/// use lumbrisse::Totals;
+///
+/// let ledger = b"2024-01-31 *\n  Meters:Flat-1  12.5 KWH\n  Meters:Flat-1  1 KWH\n  Cellar:Main\n";
+/// let items = lumbrisse::totals_to_vec(ledger, 2024, 1)?;
+/// let found: Vec<_> = Totals::new(ledger, &items).map(|total| (total.account, total.sum.to_string())).collect();
+/// assert_eq!(found, [(&b"Meters:Flat-1"[..], "13.5".to_string()), (b"Cellar:Main", "0".to_string())]);
+/// # Ok::<(), lumbrisse::Refusal>(())
+/// ```
+pub fn totals_to_vec(ledger: &[u8], year: usize, month: usize) -> Result<Vec<u8>, Refusal> {
+    let (mut items, mut work, mut spare) = (Vec::new(), Vec::new(), Vec::new());
+    // With no room the first call says the need, or that there is nothing to add up.
+    let mut answer =
+        totals(ledger, year, month, &mut [], &mut [], &mut []).map(|found| found.len());
+    if let Err(refusal) = answer {
+        if let Some(Short::Work { need }) = refusal.short() {
+            // There are no more items than postings, so that what is enough for these is enough for the items.
+            for buffer in [&mut items, &mut work, &mut spare] {
+                lengthen(buffer, need).ok_or(refusal)?;
+            }
+            answer = totals(ledger, year, month, &mut items, &mut work, &mut spare)
+                .map(|found| found.len());
+        }
+    }
+    items.truncate(answer?.saturating_mul(TOTAL_BYTES));
+    Ok(items)
 }
 
 /// The rows of a ledger, in a first table that fits most of them.

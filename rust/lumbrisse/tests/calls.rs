@@ -304,7 +304,7 @@ fn refusal_11_is_for_no_expression() {
 
 #[test]
 fn every_refusal_has_a_meaning_and_some_a_place() {
-    let numbers = [1, 2, 3, 4, 5, 6, 7, 8, 9, 10, 11, 16, 17, 18, 19, 20];
+    let numbers = [1, 2, 3, 4, 5, 6, 7, 8, 9, 10, 11, 15, 16, 17, 18, 19, 20];
     let unknown = refusal(0, 0).meaning();
     let known: Vec<usize> = (0..100)
         .filter(|number| refusal(*number, 0).meaning() != unknown)
@@ -317,7 +317,7 @@ fn every_refusal_has_a_meaning_and_some_a_place() {
     let whole_calls = numbers
         .into_iter()
         .filter(|number| !refusal(*number, 0).has_place());
-    assert!(whole_calls.eq([1, 9, 10, 18]));
+    assert!(whole_calls.eq([1, 9, 10, 15, 18]));
 }
 
 #[test]

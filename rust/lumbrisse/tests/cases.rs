@@ -9,8 +9,8 @@ use std::path::PathBuf;
 
 use lumbrisse::{
     content, edit, expression, expression_exact, expression_stacked, expression_stacked_exact,
-    packet, packet_next, read, read_strict, recover, recover_strict, span_text, tag_in_force, Edit,
-    Evaluated, Handed, Refusal,
+    packet, packet_next, read, read_strict, recover, recover_strict, span_text, tag_in_force,
+    totals, Edit, Evaluated, Handed, Refusal,
 };
 
 /// Where another case file is named.
@@ -18,10 +18,10 @@ const NAMED: &str = "LUMBRISSE_CASES";
 
 /// The repository's own file, and how many cases it has: the model's, then those that a differential run has written.
 const OWN: &str = concat!(env!("CARGO_MANIFEST_DIR"), "/../../crates/replay/stdin");
-const OWN_CASES: usize = 1400 + 287;
+const OWN_CASES: usize = 1500 + 287;
 
 /// The numbers of the calls that this test makes.
-const CALLS: [usize; 14] = [1, 2, 3, 4, 5, 6, 7, 8, 9, 12, 13, 14, 15, 16];
+const CALLS: [usize; 15] = [1, 2, 3, 4, 5, 6, 7, 8, 9, 10, 12, 13, 14, 15, 16];
 
 /// The bytes of a case that are left.
 struct Left<'a>(&'a [u8]);
@@ -120,6 +120,31 @@ fn edited(case: &Case, buffer: &mut [u8]) -> Answer {
     counted(edit(case.first, rows, k, change, buffer))
 }
 
+/// Monthly totals: the second text is `work`, of so many bytes, and then `spare`. So many bytes at the front of each
+/// are zeros afterwards, and the others stay.
+fn added_up(case: &Case, buffer: &mut [u8]) -> Answer {
+    let [year, month, work_room, zeros] = case.numbers;
+    let (work, spare) = case.second.split_at(work_room);
+    let (mut found_work, mut found_spare) = (work.to_vec(), spare.to_vec());
+    let answer = counted(
+        totals(
+            case.first,
+            year,
+            month,
+            buffer,
+            &mut found_work,
+            &mut found_spare,
+        )
+        .map(|found| found.len()),
+    );
+    for (before, after) in [(work, found_work), (spare, found_spare)] {
+        let mut expected = before.to_vec();
+        expected[..zeros].fill(0);
+        assert_eq!(after, expected, "working space for {year}-{month}");
+    }
+    answer
+}
+
 /// One step over a packet: the buffer is the row's, of so many bytes, and then the text's.
 fn stepped(case: &Case, buffer: &mut [u8]) -> Answer {
     let [at, row_room, tag, _] = case.numbers;
@@ -152,6 +177,7 @@ fn called(case: &Case, buffer: &mut [u8]) -> Answer {
         7 => counted(read_strict(case.first, buffer)),
         8 => counted(recover_strict(case.first, buffer)),
         9 => evaluated(expression_exact(case.first)),
+        10 => added_up(case, buffer),
         12 => evaluated(expression_stacked(case.first)),
         13 => evaluated(expression_stacked_exact(case.first)),
         14 => edited(case, buffer),

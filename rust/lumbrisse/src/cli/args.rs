@@ -2,6 +2,7 @@
 
 use std::ffi::OsString;
 
+use super::asked::{self, Asked};
 use super::change::{self, Change};
 
 /// What the words ask for.
@@ -9,6 +10,8 @@ use super::change::{self, Change};
 pub enum Request {
     /// A call of the reader.
     Run(Job),
+    /// Monthly totals, of one ledger or of several.
+    Totals(Asked),
     /// Help on everything, or on one command.
     Help(Option<Verb>),
     /// The program's name and version.
@@ -48,6 +51,7 @@ pub enum Verb {
     Eval,
     Packet,
     Edit,
+    Totals,
 }
 
 /// Where a ledger, packet or expression comes from.
@@ -80,7 +84,7 @@ pub fn wrong<T>(message: impl Into<String>) -> Result<T, Usage> {
 /// The request that the words after the program's name stand for.
 pub fn parse(mut words: impl Iterator<Item = OsString>) -> Result<Request, Usage> {
     let Some(word) = words.next() else {
-        return wrong("which command? read, recover, eval, packet or edit");
+        return wrong("which command? read, recover, eval, packet, edit or totals");
     };
     match word.to_str() {
         Some("-h" | "--help") => Ok(Request::Help(None)),
@@ -89,7 +93,10 @@ pub fn parse(mut words: impl Iterator<Item = OsString>) -> Result<Request, Usage
             None => Ok(Request::Help(None)),
             Some(topic) => verb(&topic).map(|verb| Request::Help(Some(verb))),
         },
-        _ => job(verb(&word)?, words),
+        _ => match verb(&word)? {
+            Verb::Totals => asked::parse(words),
+            verb => job(verb, words),
+        },
     }
 }
 
@@ -100,6 +107,7 @@ fn verb(word: &OsString) -> Result<Verb, Usage> {
         Some("eval") => Ok(Verb::Eval),
         Some("packet") => Ok(Verb::Packet),
         Some("edit") => Ok(Verb::Edit),
+        Some("totals") => Ok(Verb::Totals),
         _ => wrong(format!("no command is named {word:?}")),
     }
 }
@@ -203,6 +211,8 @@ impl Options {
                     recovering: self.recovering,
                 },
                 Verb::Edit => Task::Edit(self.change.change(input)?),
+                // Its words are taken by `asked`.
+                Verb::Totals => return wrong("totals has no single file"),
             };
         Ok(task)
     }
@@ -235,7 +245,7 @@ fn one_only(verb: Verb) -> &'static str {
     match verb {
         Verb::Eval => "one expression at a time; put it between quotes",
         Verb::Edit => "one ledger at a time; what takes its lines' place stands behind --with",
-        Verb::Read | Verb::Recover | Verb::Packet => "one file at a time",
+        Verb::Read | Verb::Recover | Verb::Packet | Verb::Totals => "one file at a time",
     }
 }
 

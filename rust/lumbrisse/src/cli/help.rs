@@ -13,6 +13,7 @@ pub fn of(topic: Option<Verb>) -> &'static str {
         Some(Verb::Eval) => EVAL,
         Some(Verb::Packet) => PACKET,
         Some(Verb::Edit) => EDIT,
+        Some(Verb::Totals) => TOTALS,
     }
 }
 
@@ -27,6 +28,8 @@ Usage:
   lumbrisse packet --read OUT   list what a packet holds
   lumbrisse edit FILE --lines 56-58 --with NEW
                                 replace one block of a ledger, and say how it reads then
+  lumbrisse totals FILE.. 2024-03
+                                add up a month by account and currency
   lumbrisse help COMMAND        more on a command
 
 A FILE, NEW or EXPRESSION of - is standard input, and so is the OUT of packet --read.
@@ -35,6 +38,9 @@ Options:
   --strict    read, recover: refuse lines that look like entries and would be taken for comments
   --rows      read, recover, packet --read, edit: the rows themselves, one to a line
   --json      the answer as JSON
+  --csv       totals: lines of fields, for a spreadsheet
+  --meter ACCOUNT
+              totals: that account beside all others
   --exact     eval: refuse what would be rounded
   --recover   packet: the rows of recovering reading
   --output OUT, --in-place
@@ -48,6 +54,8 @@ Start here:
   lumbrisse recover examples/building.beancount   the damage named, the rest kept
   lumbrisse read --strict examples/strict/short-date.beancount
                                                   a line that would be lost in silence
+  lumbrisse totals examples/totals.beancount 2024-03 --meter Meters:Reference
+                                                  a month beside the reference meter
 
 Exit status:
   0  accepted
@@ -196,4 +204,45 @@ written all the same, and 1 where the edit itself is refused: then nothing is wr
 file cannot be read or written.
 
 With --rows and --json as `lumbrisse recover`; a refused edit is an object with \"refusal\" and \"why\".
+";
+
+const TOTALS: &str = "\
+lumbrisse totals FILE.. 2024-03 [--meter ACCOUNT] [--csv | --json]
+
+Adds up the postings of a month: for each account and currency the exact sum of their amounts and how
+many there are. Each FILE is one building's ledger, read as `lumbrisse read` reads it. The month is the last
+word, or --month 2024-03 names it: then every other word is a file. A file must not be given twice.
+
+What counts is the amount that a posting of a transaction of that month states. Costs, prices, balances
+and all other entries do not. A posting that states no amount is in no sum: the account is named below,
+with how often. Products and quotients are rounded as by eval; sums are exact, in any order.
+
+Below the accounts stand, for each currency,
+  by first part  the accounts that start alike: Meters, Tenants .. (left out where no two do)
+  all accounts   those with sums above zero, those below, and all together. Where each transaction
+                 balances the last is 0: see the first two
+With several files the same follows for all of them together. A file that is refused is named as by
+`lumbrisse read` on standard error, and is in none of these; the others are listed all the same.
+
+--meter ACCOUNT sets an account beside all others, for each currency that it has: its sum, the sum of all
+other accounts in that currency, and the difference: by how much its sum is the larger, signs aside. That
+is what the reference meter counted more than the flats did. Where it is below 0 the flats counted more.
+Signs are said too: a meter that is booked against the flats has the opposite sign. So are postings to
+the account that state no amount: they may be all of a difference.
+
+With --csv, a heading and a line for each account and currency: file,month,account,currency,sum,postings
+(for postings that state no amount, currency and sum are empty); with --meter instead
+file,month,account,currency,sum,others,difference,signs,unstated (signs: opposite, same, or empty where
+one is 0; unstated: how many postings to the account state no amount).
+
+With --json, one object: \"month\", \"files\" and \"all_files\". A file has \"totals\", \"unstated\",
+\"by_first_part\", \"all_accounts\" and, where asked for, \"meter\"; or else \"refusal\" or \"trouble\". Sums are
+strings with all their digits.
+
+Lines that look like entries and are taken for comments are said on standard error, as by read.
+
+The exit status is 0 where all files were added up, also where the month has no postings or the meter
+differs; 1 where one was refused; 2 where one cannot be read, or the words are wrong. The largest counts.
+
+  lumbrisse totals examples/totals.beancount 2024-03 --meter Meters:Reference
 ";

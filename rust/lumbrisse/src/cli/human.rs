@@ -2,7 +2,7 @@
 
 use std::io::{self, Write};
 
-use lumbrisse::{Evaluated, Kind, Millionths, Refusal, Row};
+use lumbrisse::{Evaluated, Kind, Millionths, Refusal, Row, Short};
 
 use super::fraction::Fraction;
 use super::paint::Paint;
@@ -174,8 +174,11 @@ pub fn unread(err: &mut impl Write, source: &Source, stop: usize) {
 fn detail(source: &Source, refusal: Refusal) -> String {
     match (refusal.number, source.bytes.get(refusal.place)) {
         (2, Some(byte)) => format!(" (this is byte 0x{byte:02X})"),
-        (Refusal::TOO_SHORT, _) => format!(" (no memory for {} rows)", refusal.count),
-        _ => String::new(),
+        _ => match refusal.short() {
+            None => String::new(),
+            Some(Short::Answer { need }) => format!(" (no memory for {need} rows)"),
+            Some(Short::Work { need }) => format!(" (no memory for {need} bytes)"),
+        },
     }
 }
 

@@ -1,14 +1,19 @@
-//! Answers as JSON: one object, on one line but for its rows.
+//! Answers as JSON: one object, on one line but for its rows, files and totals.
 
 use std::fmt::Write as _;
 use std::io::{self, Write};
 
-use lumbrisse::{Evaluated, Millionths, PacketRow, Refusal, Row, Rows};
+use lumbrisse::{Evaluated, Millionths, PacketRow, Refusal, Row, Rows, Total};
 
+use super::args::Input;
+use super::asked::Month;
+use super::csv;
+use super::figures::{Figures, Flow, Held};
 use super::packet::{self, Tally};
 use super::place::{self, Known};
-use super::source::Source;
+use super::source::{self, Source};
 use super::summary::{refused_blocks, Summary};
+use super::totals::{Files, Listed};
 
 /// A ledger that plain reading accepted.
 pub fn accepted(out: &mut impl Write, source: &Source, table: &[u8]) -> io::Result<()> {
@@ -40,12 +45,136 @@ pub fn recovered(out: &mut impl Write, source: &Source, table: &[u8]) -> io::Res
 
 /// A call that was refused as a whole.
 pub fn refused(out: &mut impl Write, source: &Source, refusal: Refusal) -> io::Result<()> {
+    refused_file(out, source, refusal)?;
+    writeln!(out)
+}
+
+/// The same as one of several objects.
+pub fn refused_file(out: &mut impl Write, source: &Source, refusal: Refusal) -> io::Result<()> {
     let file = quoted(source.name.as_bytes());
     let refusal = refusal_object(source, Known::START, refusal);
-    writeln!(
+    write!(
         out,
         "{{\"file\":{file},\"accepted\":false,\"refusal\":{refusal}}}"
     )
+}
+
+/// A file that cannot be had, as one of several objects.
+pub fn missing_file(out: &mut impl Write, input: &Input, why: &str) -> io::Result<()> {
+    let file = quoted(source::name(input).as_bytes());
+    let why = quoted(why.as_bytes());
+    write!(
+        out,
+        "{{\"file\":{file},\"accepted\":false,\"trouble\":{why}}}"
+    )
+}
+
+/// What stands in front of the totals of the files.
+pub fn totals_start(out: &mut impl Write, month: Month) -> io::Result<()> {
+    write!(out, "{{\"month\":\"{month}\",\"files\":[")
+}
+
+/// A file's month.
+pub fn totals(out: &mut impl Write, listed: &Listed) -> io::Result<()> {
+    let file = quoted(listed.source.name.as_bytes());
+    let postings = listed.figures.postings();
+    write!(
+        out,
+        "{{\"file\":{file},\"accepted\":true,\"postings\":{postings},\"totals\":["
+    )?;
+    for (number, (total, currency)) in stated(listed.totals).enumerate() {
+        next_line(out, number)?;
+        let (account, currency) = (quoted(total.account), quoted(currency));
+        let (sum, postings) = (total.sum, total.postings);
+        write!(
+            out,
+            "{{\"account\":{account},\"currency\":{currency},\"sum\":\"{sum}\",\"postings\":{postings}}}"
+        )?;
+    }
+    write!(out, "],\"unstated\":[")?;
+    let unstated = listed
+        .totals
+        .iter()
+        .filter(|total| total.currency.is_none());
+    for (number, total) in unstated.enumerate() {
+        next_line(out, number)?;
+        let (account, postings) = (quoted(total.account), total.postings);
+        write!(out, "{{\"account\":{account},\"postings\":{postings}}}")?;
+    }
+    write!(out, "],{}", figures(listed.figures))?;
+    if let Some(meter) = &listed.meter {
+        let account = quoted(meter.account);
+        let held: Vec<String> = meter.held.iter().map(held_object).collect();
+        let (held, unstated) = (held.join(","), meter.unstated);
+        write!(
+            out,
+            ",\"meter\":{{\"account\":{account},\"unstated_postings\":{unstated},\"currencies\":[{held}]}}"
+        )?;
+    }
+    write!(out, "}}")
+}
+
+/// The totals of postings that state an amount, each with its currency.
+fn stated<'a>(totals: &'a [Total<'a>]) -> impl Iterator<Item = (&'a Total<'a>, &'a [u8])> {
+    totals
+        .iter()
+        .filter_map(|total| Some((total, total.currency?)))
+}
+
+/// What stands behind the totals of the files: all of them together.
+pub fn totals_end(out: &mut impl Write, all: &Figures, files: Files) -> io::Result<()> {
+    let Files { listed, left_out } = files;
+    writeln!(
+        out,
+        "],\n\"all_files\":{{\"listed\":{listed},\"left_out\":{left_out},\"postings\":{},\"unstated_postings\":{},{}}}}}",
+        all.postings(),
+        all.unstated,
+        figures(all)
+    )
+}
+
+/// What some totals come to, by the first part of the account and by currency.
+fn figures(figures: &Figures) -> String {
+    let parts: Vec<String> = figures
+        .parts
+        .iter()
+        .map(|((part, currency), found)| {
+            let (part, currency) = (quoted(part), quoted(currency));
+            let (sum, postings) = (found.sum, found.postings);
+            format!("{{\"part\":{part},\"currency\":{currency},\"sum\":\"{sum}\",\"postings\":{postings}}}")
+        })
+        .collect();
+    let flows: Vec<String> = figures
+        .currencies
+        .iter()
+        .map(|(currency, flow)| {
+            let currency = quoted(currency);
+            let Flow { above, below, sum, postings } = flow;
+            format!("{{\"currency\":{currency},\"above_zero\":\"{above}\",\"below_zero\":\"{below}\",\"sum\":\"{sum}\",\"postings\":{postings}}}")
+        })
+        .collect();
+    format!(
+        "\"by_first_part\":[{}],\"all_accounts\":[{}]",
+        parts.join(","),
+        flows.join(",")
+    )
+}
+
+fn held_object(held: &Held) -> String {
+    format!(
+        "{{\"currency\":{},\"sum\":\"{}\",\"others\":\"{}\",\"difference\":\"{}\",\"signs\":\"{}\"}}",
+        quoted(&held.currency),
+        held.meter,
+        held.others,
+        held.difference(),
+        csv::signs(held)
+    )
+}
+
+/// A new line for one of several objects, behind a comma where it is not the first.
+pub fn next_line(out: &mut impl Write, number: usize) -> io::Result<()> {
+    separate(out, number)?;
+    writeln!(out)
 }
 
 /// An edit that was refused, and why in words.

@@ -1,10 +1,13 @@
 //! The command line: what is asked for, the call that answers it, and how the answer is written.
 
 mod args;
+mod asked;
 mod change;
+mod csv;
 mod decimal;
 mod edit;
 mod exact;
+mod figures;
 mod folded;
 mod fraction;
 mod help;
@@ -21,8 +24,11 @@ mod remark;
 mod rows;
 mod shown;
 mod source;
+mod statement;
 mod store;
+mod sum;
 mod summary;
+mod totals;
 
 use std::ffi::OsString;
 use std::io::{self, BufWriter, ErrorKind, IsTerminal, Write};
@@ -35,7 +41,7 @@ use place::Known;
 use source::Source;
 
 /// How a run ends. A person reads it in words; another program by the exit status.
-#[derive(Clone, Copy, PartialEq, Eq)]
+#[derive(Clone, Copy, PartialEq, Eq, PartialOrd, Ord)]
 enum Status {
     /// All was accepted.
     Accepted = 0,
@@ -49,6 +55,7 @@ enum Status {
 pub fn run(words: impl Iterator<Item = OsString>) -> ExitCode {
     let status = match args::parse(words) {
         Ok(Request::Run(job)) => run_job(&job),
+        Ok(Request::Totals(asked)) => totals::totals(&asked),
         Ok(Request::Help(topic)) => said(help::of(topic)),
         Ok(Request::Version) => said(help::VERSION),
         Err(usage) => {

@@ -36,14 +36,19 @@ pub fn packet(input: &Input) -> Result<Source, String> {
 }
 
 fn load(input: &Input, most: usize) -> Result<Source, String> {
-    let name = match input {
-        Input::Standard => "<stdin>".to_string(),
-        Input::Word(_) => "<expression>".to_string(),
-        Input::File(path) => shown::text(path.as_encoded_bytes()),
-    };
+    let name = name(input);
     match bytes(input, most) {
         Ok(bytes) => Ok(Source { name, bytes }),
         Err(error) => Err(format!("cannot read {name}: {error}")),
+    }
+}
+
+/// The name that messages give an input.
+pub fn name(input: &Input) -> String {
+    match input {
+        Input::Standard => "<stdin>".to_string(),
+        Input::Word(_) => "<expression>".to_string(),
+        Input::File(path) => shown::text(path.as_encoded_bytes()),
     }
 }
 
