@@ -1,28 +1,32 @@
 -- Rule 10: the rows of amounts stand in order within their bytes, and are no more than these.
-use Prim.Native.Nat.{ℕ, _+_}
+use Prim.Native.Nat.{ℕ, _+_, _<_}
 use native.Mathlib.Omega.{arith}
 use mathlib.Core.List.{List}
 use lib.ListN.{length}
 use Rattle.text.specs.Answer.{must}
 use Rattle.text.specs.Leaves.{gap, currency}
 use Rattle.text.proofs.Joins.{must-reach}
+use Rattle.text.proofs.Inversions.{must-inv}
 use Rattle.text.proofs.TokenEnds.{gap-reach, currency-reach}
 use Rattle.amount.specs.Expression.{expression}
 use Rattle.amount.specs.Amounts.{amount, hardGap, hardCurrency, hardAmount, priceOf}
 use Rattle.amount.proofs.ExpressionEnds.{expression-reach}
 use Rattle.amount.proofs.AmountLaws.{hard-gap-reach, hard-currency-reach}
-use Rattle.amount.proofs.RowCounts.{Kinds, Of, FitsFrom, Fits, to-fits, fits-from, then-fits, and-fits, Bare, must-bare, bare-and, gap-bare, currency-bare}
+use Rattle.amount.proofs.ValueSizes.{read-small}
+use Rattle.amount.proofs.RowCounts.{Kinds, postingKind, Of, span-filled, valued-filled, FitsFrom, Fits, fits-from, row-fits, then-read, and-fits, Bare, must-bare, bare-and, gap-bare, currency-bare}
 
 module _ (s : List ℕ) where
   abbrev N : ℕ
   N = length s
 
-  pub amount-fits : {K : Kinds} (k at : ℕ) → Of K k → FitsFrom K s at (amount k s at)
+  -- an amount's row is no posting's
+  pub amount-fits : {K : Kinds} (k at : ℕ) → Of K k × (k < postingKind) → FitsFrom K s at (amount k s at)
   unfolding amount
   amount-fits k at h =
-      then-fits N (at + 1) at (expression s at) _ (expression-reach s at) (λ e v p₁ q₁.
+      then-read N (at + 1) at (expression s at) _ (expression-reach s at) (λ e v w p₁ q₁.
       bare-and N (e + 1) at (gap s e) _ (gap-reach s e q₁) (gap-bare s e) (λ c p₂ q₂.
-      bare-and N (c + 1) at (currency s c) _ (currency-reach s c) (currency-bare s c) (λ d p₃ q₃. to-fits at d _ (omega arith))))
+      bare-and N (c + 1) at (currency s c) _ (currency-reach s c) (currency-bare s c) (λ d p₃ q₃.
+      row-fits at d _ (valued-filled (λ z. omega arith) q₂ q₃ (read-small s at e v w)) (omega arith))))
 
   pub hard-gap-bare : (at : ℕ) → Bare (hardGap s at)
   unfolding hardGap
@@ -32,15 +36,15 @@ module _ (s : List ℕ) where
   unfolding hardCurrency
   hard-currency-fits at =
       bare-and N (at + 1) at (must at (currency s at)) _ (must-reach N (at + 1) at _ (currency-reach s at)) (must-bare at _ (currency-bare s at)) (λ e p q.
-      to-fits at e _ (omega arith))
+      row-fits at e _ span-filled (omega arith))
 
-  pub hard-amount-fits : {K : Kinds} (k at : ℕ) → Of K k → FitsFrom K s at (hardAmount k s at)
+  pub hard-amount-fits : {K : Kinds} (k at : ℕ) → Of K k × (k < postingKind) → FitsFrom K s at (hardAmount k s at)
   unfolding hardAmount
   hard-amount-fits k at h =
-      then-fits N (at + 1) at (must at (expression s at)) _ (must-reach N (at + 1) at _ (expression-reach s at)) (λ e v p₁ q₁.
+      then-read N (at + 1) at (must at (expression s at)) _ (must-reach N (at + 1) at _ (expression-reach s at)) (λ e v w p₁ q₁.
       bare-and N (e + 1) at (hardGap s e) _ (hard-gap-reach s e q₁) (hard-gap-bare e) (λ c p₂ q₂.
       bare-and N (c + 1) at (must c (currency s c)) _ (must-reach N (c + 1) c _ (currency-reach s c)) (must-bare c _ (currency-bare s c)) (λ d p₃ q₃.
-      to-fits at d _ (omega arith))))
+      row-fits at d _ (valued-filled (λ z. omega arith) q₂ q₃ (read-small s at e v (must-inv at (expression s at) e v w))) (omega arith))))
 
   pub price-of-fits : (at : ℕ) → Fits s at (priceOf s at)
   unfolding priceOf

@@ -68,11 +68,15 @@ module _ (s : List ℕ) where
     unfolding atom _else_
     lone-atom g at h = rw h
 
-    lone-sum : (calc : Arithmetic) (g : ℕ → Ans Value) (at : ℕ) → literal s at ≡ To e v → isPlus (getD s (blanks s e) 0) ≡ false → isTimes (getD s (blanks s e) 0) ≡ false → sums calc g s at ≡ To e v
-    unfolding sums products
-    lone-sum calc g at h p t = chain-off calc isPlus (products calc g s) at (chain-off calc isTimes (atom g s) at (lone-atom g at h) t) p
+    pub lone-product : (calc : Arithmetic) (g : ℕ → Ans Value) (at : ℕ) → literal s at ≡ To e v → isTimes (getD s (blanks s e) 0) ≡ false → products calc g s at ≡ To e v
+    unfolding products
+    lone-product calc g at h t = chain-off calc isTimes (atom g s) at (lone-atom g at h) t
 
-    lone : (calc : Arithmetic) (n at : ℕ) → literal s at ≡ To e v → isPlus (getD s (blanks s e) 0) ≡ false → isTimes (getD s (blanks s e) 0) ≡ false → within calc n s at ≡ To e v
+    lone-sum : (calc : Arithmetic) (g : ℕ → Ans Value) (at : ℕ) → literal s at ≡ To e v → isPlus (getD s (blanks s e) 0) ≡ false → isTimes (getD s (blanks s e) 0) ≡ false → sums calc g s at ≡ To e v
+    unfolding sums
+    lone-sum calc g at h p t = chain-off calc isPlus (products calc g s) at (lone-product calc g at h t) p
+
+    pub lone : (calc : Arithmetic) (n at : ℕ) → literal s at ≡ To e v → isPlus (getD s (blanks s e) 0) ≡ false → isTimes (getD s (blanks s e) 0) ≡ false → within calc n s at ≡ To e v
     unfolding within inGroup _else_
     lone calc n at h p t = rw (negation-misses calc n at e v h (eqb (getD s at 0) 45) refl) (lone-sum calc (group calc n s) at h p t)
 

@@ -1,5 +1,6 @@
 -- The rows of a reading from k to j: they stand in order of start, start from k to j, at j only in mid-line, end at j at
--- the latest, have the kinds that their rule makes, and are no more than the bytes. Tokens make none.
+-- the latest, have the kinds that their rule makes, and are no more than the bytes. What they hold fits: places of the
+-- text, dates, bytes, and values within the limit. Tokens make none.
 use Prim.Native.Nat.{ℕ, zero, suc, _+_, _-_, _≤_, _<_}
 use native.Mathlib.Omega.{arith}
 use mathlib.Core.Path.{_≡_, refl, subst}
@@ -8,6 +9,7 @@ use mathlib.Core.List.{List, [], _∷_, _++_}
 use borrow.Author.Tests.{eqb-true, ne-eqb}
 use lib.Dec.{eqb}
 use lib.ListN.{length, getD, length-append}
+use Rattle.decimal.specs.declared.Value.{Value}
 use Rattle.text.specs.Accounts.{accountAt}
 use Rattle.text.specs.Strings.{stringAt}
 use Rattle.text.specs.Tags.{markedAt}
@@ -17,13 +19,11 @@ use Rattle.text.specs.declared.Read.{Read}
 use Rattle.text.specs.declared.account.AccountRead.{AccountRead}
 use Rattle.text.proofs.Joins.{Reach}
 use Rattle.amount.specs.declared.detail.Detail.{Detail}
-use Rattle.amount.specs.Details.{Rows}
+use Rattle.amount.specs.Details.{Rows, span, named as naming, valued}
+pub use Rattle.amount.specs.Kinds.{flagKind, costKind, postingKind, refusalKind}
+use Rattle.amount.proofs.ValueSizes.{Small, zero-small}
 
 -- ---- lists of rows
-
--- the kind of a refusal row: those of plain reading are below it
-abbrev pub refusalKind : ℕ
-refusalKind = 90
 
 -- 1 where a byte that is no line feed stands before a place, else 0
 unfoldable pub midLine : List ℕ → ℕ → ℕ
@@ -36,15 +36,9 @@ mid-line s at m e h =
     let z : at + 1 - 1 ≡ at = omega arith in
     rw (ne-eqb (at + 1) 0 (λ z. omega arith), z, e, ne-eqb m 10 h)
 
--- the lowest kind of a detail, a transaction's flag; those of all other details are above it
-abbrev pub flagKind : ℕ
-flagKind = 20
-
--- the kind of a posting's row: what may follow it in its line and what may stand in a head is below, metadata above
-abbrev pub postingKind : ℕ
-postingKind = 33
-
--- kinds from `low` on that are below `high`
+-- kinds from `low` on that are below `high`: a flag's is the lowest of a detail; what may follow a posting's account
+-- in its line and what may stand in a head is below a posting's, metadata above; a refusal row's is above those of
+-- plain reading
 pub record Kinds : Type 0 where
   pub low : ℕ
   pub high : ℕ
@@ -73,11 +67,37 @@ Of K kind = (K .low ≤ kind) × (kind < K .high)
 abbrev pub Among : Kinds → Kinds → Type 0
 Among K L = (L .low ≤ K .low) × (K .high ≤ L .high)
 
--- starts that rise from k to j: an empty tag's row starts where its reading ends, behind its mark
+-- what p of a row is: 0, a place of the text, a cost's date, or the byte of a posting's flag
+pub data Second (s : List ℕ) (d : Detail) : Type 0 where
+  unset : d .p ≡ 0 → Second s d
+  within : (d .kind ≡ postingKind → ⊥) → d .p ≤ length s → Second s d
+  day : d .kind ≡ costKind → d .p < 100000000 → Second s d
+  flagged : d .kind ≡ postingKind → (i : ℕ) → d .p ≡ getD s i 0 → Second s d
+
+-- what a row of the text s holds beside its span
+pub record Filled (s : List ℕ) (d : Detail) : Type 0 where
+  pub second : Second s d
+  pub q-in : d .q ≤ length s
+  pub small : Small (d .value)
+
+module _ {s : List ℕ} {k a e : ℕ} where
+  pub span-filled : Filled s (span k a e)
+  span-filled = record { second = unset refl; q-in = omega arith; small = zero-small }
+
+  pub valued-filled : {p q : ℕ} {v : Value} → (k ≡ postingKind → ⊥) → p ≤ length s → q ≤ length s → Small v → Filled s (valued k a e p q v)
+  valued-filled n p q h = record { second = within n p; q-in = q; small = h }
+
+  pub named-filled : {p q : ℕ} → (k ≡ postingKind → ⊥) → p ≤ length s → q ≤ length s → Filled s (naming k a e p q)
+  named-filled n p q = valued-filled n p q zero-small
+
+-- a row from k to j: an empty tag's starts where its reading ends, behind its mark
+abbrev pub Lies : Kinds → List ℕ → ℕ → ℕ → Detail → Type 0
+Lies K s k j d = (k ≤ d .start) × (d .start < j + midLine s (d .start)) × (K .low ≤ d .kind) × (d .kind < K .high) × (d .end ≤ j)
+
+-- starts that rise from k to j
 abbrev pub Rising : Kinds → List ℕ → ℕ → ℕ → List Detail → Type 0
 Rising K s k j [] = k ≤ j
-Rising K s k j (d ∷ ds) =
-    (k ≤ d .start) × (d .start < j + midLine s (d .start)) × ((K .low ≤ d .kind) × (d .kind < K .high) × (d .end ≤ j)) × Rising K s (d .start) j ds
+Rising K s k j (d ∷ ds) = Lies K s k j d × Filled s d × Rising K s (d .start) j ds
 
 -- and are no more than the bytes
 abbrev pub Placed : Kinds → List ℕ → ℕ → ℕ → List Detail → Type 0
@@ -87,14 +107,14 @@ Placed K s k j ds = Rising K s k j ds × (k + length ds ≤ j)
 pub rising-wide : (K L : Kinds) (s : List ℕ) (k j l m : ℕ) (ds : List Detail) → Among K L → l ≤ k → j ≤ m → Rising K s k j ds → Rising L s l m ds
 rising-wide K L s k j l m [] b h g r = omega arith
 rising-wide K L s k j l m (d ∷ ds) b h g r =
-    (omega (arith, r .0), omega (arith, r .1), omega (arith, r .2, b), rising-wide K L s (d .start) j (d .start) m ds b (omega arith) g (r .3))
+    (omega (arith, r .0, b), r .1, rising-wide K L s (d .start) j (d .start) m ds b (omega arith) g (r .2))
 
 pub placed-wide : (K L : Kinds) (s : List ℕ) (k j l m : ℕ) (ds : List Detail) → Among K L → l ≤ k → j ≤ m → Placed K s k j ds → Placed L s l m ds
 placed-wide K L s k j l m ds b h g r = (rising-wide K L s k j l m ds b h g (r .0), omega (arith, r .1))
 
 rising-append : (K : Kinds) (s : List ℕ) (k j l : ℕ) (xs ys : List Detail) → j ≤ l → Rising K s k j xs → Rising K s j l ys → Rising K s k l (xs ++ ys)
 rising-append K s k j l [] ys h p q = rising-wide K K s j l k l ys (omega arith) p (omega arith) q
-rising-append K s k j l (d ∷ xs) ys h p q = (p .0, omega (arith, p .1), omega (arith, p .2), rising-append K s (d .start) j l xs ys h (p .3) q)
+rising-append K s k j l (d ∷ xs) ys h p q = (omega (arith, p .0), p .1, rising-append K s (d .start) j l xs ys h (p .2) q)
 
 -- ---- answers on a text, where w takes the rows out of what was read
 
@@ -150,6 +170,10 @@ module _ {A : Type 0} {K : Kinds} {s : List ℕ} {w : A → List Detail} where
   else-fits k Miss b r q = q
   else-fits k (Hard i p) b r q = r
 
+-- a row alone
+pub row-fits : {K : Kinds} {s : List ℕ} (k j : ℕ) (d : Detail) → Filled s d → Lies K s k j d × (d .start ≤ j) × (k + 1 ≤ j) → FitsFrom K s k (To j (d ∷ []))
+row-fits k j d f h = to-fits k j (d ∷ []) ((h .0, f, h .1), h .2)
+
 -- what follows may know the rows of the first
 pub then-rows : {A B : Type 0} {K : Kinds} {s : List ℕ} (w : A → List Detail) {v : B → List Detail} (n i l k : ℕ) (a : Ans A) (g : ℕ → A → Ans B) → Reach n i a → Holds K s w l a
     → ((j : ℕ) (x : A) → i ≤ j → j ≤ n → Placed K s l j (w x) → Holds K s v k (g j x)) → Holds K s v k (a then g)
@@ -158,12 +182,17 @@ then-rows w n i l k (To j x) g r h f = f j x (r .ends .0) (r .ends .1) (h .rows)
 then-rows w n i l k Miss g r h f = miss-fits k
 then-rows w n i l k (Hard m p) g r h f = hard-fits k m p
 
+-- or that it was read
+pub then-read : {A B : Type 0} {K : Kinds} {s : List ℕ} {v : B → List Detail} (n i k : ℕ) (a : Ans A) (g : ℕ → A → Ans B) → Reach n i a
+    → ((j : ℕ) (x : A) → a ≡ To j x → i ≤ j → j ≤ n → Holds K s v k (g j x)) → Holds K s v k (a then g)
+unfolding _then_
+then-read n i k (To j x) g r f = f j x refl (r .ends .0) (r .ends .1)
+then-read n i k Miss g r f = miss-fits k
+then-read n i k (Hard m p) g r f = hard-fits k m p
+
 pub then-fits : {A B : Type 0} {K : Kinds} {s : List ℕ} {v : B → List Detail} (n i k : ℕ) (a : Ans A) (g : ℕ → A → Ans B) → Reach n i a
     → ((j : ℕ) (x : A) → i ≤ j → j ≤ n → Holds K s v k (g j x)) → Holds K s v k (a then g)
-unfolding _then_
-then-fits n i k (To j x) g r f = f j x (r .ends .0) (r .ends .1)
-then-fits n i k Miss g r f = miss-fits k
-then-fits n i k (Hard m p) g r f = hard-fits k m p
+then-fits n i k a g r f = then-read n i k a g r (λ j x e. f j x)
 
 -- ---- rows, and what follows
 

@@ -1,7 +1,8 @@
 -- A value that an expression gives is within the limit, in any form.
 use Prim.Native.Nat.{ℕ, zero, suc, _+_, _-_, _*_, _/_, _%_, _≤_}
 use native.Mathlib.Nat.{div-le-of-le-mul, mul-comm}
-use mathlib.Core.Path.{_≡_, refl}
+use native.Mathlib.Omega.{arith}
+use mathlib.Core.Path.{_≡_, refl, subst}
 use mathlib.Core.Bool.{Bool, true, false, cond, _||_}
 use mathlib.Core.List.{List}
 use borrow.Author.Tests.{ltb-false}
@@ -17,6 +18,7 @@ use Rattle.decimal.specs.declared.Value.{Value}
 use Rattle.decimal.specs.declared.Value.the-variants.{Known, Refused}
 use Rattle.text.specs.Run.{blanks}
 use Rattle.text.specs.Answer.{Ans, To, Miss, Hard, _then_, _else_}
+use Rattle.amount.specs.Details.{zeroValue}
 use Rattle.amount.specs.Literal.{literalAs, plain, unsigned, literal}
 use Rattle.amount.specs.Expression.{groups, Arithmetic, negatedValue, operated, combined, isPlus, isTimes, goesOn, chain, atom, products, sums, negation, inGroup, closed, group, within, expressionIn, expression}
 
@@ -26,6 +28,9 @@ Fine (Refused n) = Unit {0}
 
 pub record Small (v : Value) : Type 0 where
   pub holds : Fine v
+
+pub zero-small : Small zeroValue
+zero-small = record { holds = omega arith }
 
 refused : (n : ℕ) → Small (Refused n)
 refused n = record { holds = tt }
@@ -174,3 +179,6 @@ pub expression-small : (s : List ℕ) (at : ℕ) → Smalls (expression s at)
 unfolding expression expressionIn within
 expression-small s at =
     in-group-small (combined Rounding) (combined-small Rounding) (group (combined Rounding) groups s) s (group-small (combined Rounding) (combined-small Rounding) groups s) at
+
+pub read-small : (s : List ℕ) (at e : ℕ) (v : Value) → expression s at ≡ To e v → Small v
+read-small s at e v q = subst Smalls q (expression-small s at) .holds

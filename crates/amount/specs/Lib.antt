@@ -1,3 +1,4 @@
+pub mod Kinds
 pub mod Literal
 pub mod Expression
 pub mod Agreement

@@ -2,4 +2,5 @@
 pub mod amounts;
 pub mod detail;
 pub mod expression;
+pub mod kind;
 pub mod literal;

@@ -8,13 +8,15 @@ use Rattle.text.specs.Run.{blanks}
 use Rattle.text.specs.Answer.{_and_, must, maybe}
 use Rattle.text.specs.Leaves.{account, currency, byte}
 use Rattle.text.proofs.Joins.{must-reach}
+use Rattle.text.proofs.Inversions.{must-inv}
 use Rattle.text.proofs.TokenEnds.{run-reach, account-reach, currency-reach, byte-reach}
 use Rattle.amount.specs.Details.{Rows, span}
 use Rattle.amount.specs.Expression.{expression}
 use Rattle.amount.specs.Amounts.{hardGap}
 use Rattle.amount.proofs.ExpressionEnds.{expression-reach}
 use Rattle.amount.proofs.AmountLaws.{hard-gap-reach}
-use Rattle.amount.proofs.RowCounts.{unflagged, Of, placed-wide, Fits, to-fits, fits-from, must-fits, then-rows, then-fits, and-fits, maybe-fits, many-fits, must-bare, bare-and, account-bare, currency-bare, byte-bare}
+use Rattle.amount.proofs.ValueSizes.{read-small}
+use Rattle.amount.proofs.RowCounts.{unflagged, Of, span-filled, valued-filled, placed-wide, Fits, to-fits, fits-from, must-fits, row-fits, then-rows, then-read, and-fits, maybe-fits, many-fits, must-bare, bare-and, account-bare, currency-bare, byte-bare}
 use Rattle.amount.proofs.AmountFew.{hard-gap-bare}
 use Rattle.posting.specs.Costs.{comma}
 use Rattle.posting.specs.Metadata.{quoted}
@@ -35,11 +37,11 @@ module _ (s : List ℕ) where
   unfolding hardAccount
   hard-account-fits at =
       bare-and N (at + 1) at (must at (account s at)) _ (must-reach N (at + 1) at _ (account-reach s at)) (must-bare at _ (account-bare s at)) (λ e p q.
-      to-fits at e _ (omega arith))
+      row-fits at e _ span-filled (omega arith))
 
   -- a string whose row is a span
   pub text-fits : (k at : ℕ) → Of unflagged k → Fits s at (quoted (span k) s at)
-  text-fits k at h = quoted-fits s (span k) at at (λ m e p. omega arith) (omega arith)
+  text-fits k at h = quoted-fits s (span k) at at (λ m e p q. (omega arith, span-filled, omega arith)) (omega arith)
 
   pub hard-string-fits : (at : ℕ) → Fits s at (hardString s at)
   unfolding hardString
@@ -52,22 +54,31 @@ module _ (s : List ℕ) where
       bare-and N (blanks s at + 1) at (byte 126 s (blanks s at)) _ (byte-reach s (blanks s at) 126 (omega arith)) (byte-bare s (blanks s at) 126) (λ i p₁ q₁.
       let b = blanks s i in
       let w = run-reach isBlank s i q₁ in
-      then-fits N (b + 1) at (expression s b) _ (expression-reach s b) (λ e v p₂ q₂. to-fits at e _ (omega arith)))
+      then-read N (b + 1) at (expression s b) _ (expression-reach s b) (λ e v x p₂ q₂.
+      row-fits at e _ (valued-filled (λ z. omega arith) (omega arith) (omega arith) (read-small s b e v x)) (omega arith)))
 
   pub balance-of-fits : (at : ℕ) → Fits s at (balanceOf s at)
   unfolding balanceOf
   balance-of-fits at =
       and-fits N (at + 1) at (hardAccount s at) _ (hard-account-reach s at) (hard-account-fits at) (λ a p₁ q₁.
       hard-gap-and a a _ q₁ (λ g p₂ q₂.
-      then-fits N (g + 1) a (must g (expression s g)) _ (must-reach N (g + 1) g _ (expression-reach s g)) (λ e v p₃ q₃.
+      then-read N (g + 1) a (must g (expression s g)) _ (must-reach N (g + 1) g _ (expression-reach s g)) (λ e v x p₃ q₃.
       then-rows _ N e e a (maybe e (tolerance s e)) _ (optional-reach N e _ q₃ (tolerance-reach s e q₃)) (maybe-fits e _ (tolerance-fits e q₃)) (λ t ts p₄ q₄ r₄.
       hard-gap-and a t _ q₄ (λ c p₅ q₅.
       bare-and N (c + 1) a (must c (currency s c)) _ (must-reach N (c + 1) c _ (currency-reach s c)) (must-bare c _ (currency-bare s c)) (λ d p₆ q₆.
-      to-fits a d _ ((omega arith, omega arith, omega arith, placed-wide unflagged unflagged s e t g d ts (omega arith) (omega arith) (omega arith) r₄ .0), omega arith)))))))
+      to-fits a d _ (
+        (
+          omega arith,
+          valued-filled (λ z. omega arith) q₅ q₆ (read-small s g e v (must-inv g (expression s g) e v x)),
+          placed-wide unflagged unflagged s e t g d ts (omega arith) (omega arith) (omega arith) r₄ .0,
+        ),
+        omega arith,
+      )))))))
 
   pub one-currency-fits : (at : ℕ) → Fits s at (oneCurrency s at)
   unfolding oneCurrency
-  one-currency-fits at = bare-and N (at + 1) at (currency s at) _ (currency-reach s at) (currency-bare s at) (λ e p q. to-fits at e _ (omega arith))
+  one-currency-fits at = bare-and N (at + 1) at (currency s at) _ (currency-reach s at) (currency-bare s at) (λ e p q.
+      row-fits at e _ span-filled (omega arith))
 
   pub further-fits : (at : ℕ) → at ≤ N → Fits s at (further s at)
   unfolding further

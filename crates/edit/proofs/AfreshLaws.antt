@@ -17,13 +17,12 @@ use Rattle.ledger.specs.Answers.{answer, left}
 use Rattle.ledger.specs.declared.read.Answer.{Answer}
 use Rattle.ledger.specs.declared.scan.Profile.the-variants.{Plain}
 use Rattle.recovery.specs.Recovering.{recoverFrom, recovered}
-use Rattle.recovery.proofs.FrontLaws.{length-rowsBytes}
+use Rattle.row.proofs.PourLaws.{length-rowsBytes}
 use Rattle.recovery.proofs.CallLaws.{recovered-is}
 use Rattle.edit.specs.Edits.{isBlock, isNew, edited, grows, editing, editRows}
 use Rattle.edit.specs.Afresh.{Edit, RowsOf, AfreshCall, AllAfresh}
 use Rattle.edit.proofs.BlockTests.{block-bounds}
-use Rattle.row.proofs.ReadBack.{wrapped}
-use Rattle.edit.proofs.RowBytes.{rows-front}
+use Rattle.row.proofs.ReadBack.{wrapped, rows-front}
 use Rattle.edit.proofs.EditedRows.{edit-bytes, rows-are}
 
 -- the length of the new ledger

@@ -26,7 +26,8 @@ use Rattle.recovery.specs.Recovering.{blockLength, recoverFrom, recovered}
 use Rattle.recovery.specs.Demand3.{startsTail, endsLine}
 use Rattle.recovery.proofs.BlockLaws.{block-le, cut-is, block-boundary, Boundary, recover-nil}
 use Rattle.recovery.proofs.BlocksLaws.{recover-kept}
-use Rattle.recovery.proofs.FrontLaws.{length-rowsBytes, rows-append}
+use Rattle.row.proofs.PourLaws.{length-rowsBytes}
+use Rattle.recovery.proofs.FrontLaws.{rows-append}
 use Rattle.recovery.proofs.CallLaws.{starts-is, ends-is, recovered-is}
 use Rattle.edit.specs.Edits.{isNew, edited, fieldLimit, distance, shift, before, from, editRows}
 use Rattle.edit.specs.Afresh.{Edit, editedRows, Afresh, BeforeStay}

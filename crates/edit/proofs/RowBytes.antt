@@ -4,18 +4,17 @@ use Prim.Native.Nat.{ℕ, zero, suc, _+_, _-_, _/_, _%_, _≤_, _<_}
 use native.Mathlib.Omega.{arith}
 use mathlib.Core.Path.{_≡_, refl, sym, _∙_, ap, subst}
 use mathlib.Core.Bool.{Bool, true, false, cond, _||_}
-use mathlib.Core.List.{List, [], _∷_, _++_, map, append-assoc, append-nil}
+use mathlib.Core.List.{List, [], _∷_, _++_, map, append-nil}
 use lib.Dec.{eqb}
 use lib.ListN.{length, getD, take, drop, length-take, length-drop}
-use lib.Seq.{drop-at, drop-drop, getD-drop, take-add}
+use lib.Seq.{drop-drop, getD-drop, take-add}
 use Rattle.amount.proofs.RowCounts.{refusalKind}
 use Rattle.row.specs.declared.table.Row.{Row}
 use Rattle.row.specs.Field.{le, un}
 use Rattle.row.specs.Row.{width, rowBytes, rowsBytes, rowIn, rowsIn}
 use Rattle.row.specs.Details.{spanned}
 use Rattle.row.proofs.FieldLaws.{length-le, un-le, le-un}
-use Rattle.row.proofs.PourLaws.{length-rowBytes}
-use Rattle.row.proofs.ReadBack.{wrapped, row-in}
+use Rattle.row.proofs.ReadBack.{wrapped, rows-front}
 use Rattle.entry.proofs.EntryLines.{Each, OnLine}
 use Rattle.edit.specs.Edits.{fieldLimit, moveOn, shift}
 use Rattle.edit.specs.Afresh.{KeepsBytes}
@@ -25,18 +24,6 @@ both : {x y v w : List ℕ} → x ≡ y → v ≡ w → x ++ v ≡ y ++ w
 both {x} {y} {v} {w} g h = ap (λ (z : List ℕ). z ++ v) g ∙ ap (λ (z : List ℕ). y ++ z) h
 
 -- ---- rows as their bytes say
-
--- rows at the front of a table
-pub rows-front : (rs : List Row) (b : List ℕ) → rowsIn (length rs) (rowsBytes rs ++ b) ≡ map wrapped rs
-unfolding rowsIn rowsBytes
-rows-front [] b = refl
-rows-front (r ∷ rs) b =
-    let x = rowsBytes rs ++ b in
-    let q : (rowBytes r ++ rowsBytes rs) ++ b ≡ rowBytes r ++ x = append-assoc (rowBytes r) (rowsBytes rs) b in
-    ap (λ (z : List ℕ). rowIn z ∷ rowsIn (length rs) (drop width z)) q
-    ∙ ap (λ (z : Row). z ∷ rowsIn (length rs) (drop width (rowBytes r ++ x))) (row-in r x)
-    ∙ ap (λ (z : List ℕ). wrapped r ∷ rowsIn (length rs) z) (drop-at (rowBytes r) x width (length-rowBytes r))
-    ∙ ap (λ (z : List Row). wrapped r ∷ z) (rows-front rs b)
 
 pub rows-in : (rs : List Row) → rowsIn (length rs) (rowsBytes rs) ≡ map wrapped rs
 rows-in rs = ap (rowsIn (length rs)) (sym (append-nil (rowsBytes rs))) ∙ rows-front rs []

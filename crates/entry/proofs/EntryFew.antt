@@ -10,7 +10,7 @@ use Rattle.text.specs.Leaves.{lineEnd, word}
 use Rattle.text.proofs.Joins.{Reach}
 use Rattle.text.proofs.TokenEnds.{line-reach, tag-reach, word-reach}
 use Rattle.amount.specs.Details.{Rows}
-use Rattle.amount.proofs.RowCounts.{Fits, to-fits, fits-from, fits-wide, must-fits, and-fits, bare-and, word-bare, tag-and}
+use Rattle.amount.proofs.RowCounts.{span-filled, Fits, fits-from, fits-wide, must-fits, row-fits, and-fits, bare-and, word-bare, tag-and}
 use Rattle.posting.specs.Metadata.{quoted}
 use Rattle.posting.proofs.PostingEnds.{quoted-reach}
 use Rattle.posting.proofs.PostingFew.{line-fits, gap-and, metadata-fits}
@@ -65,4 +65,4 @@ module _ (s : List ℕ) where
   tagged-fits w at h =
       word-and w (at + 1) at _ h (λ a p₁ q₁.
       gap-and s (at + 1) a _ q₁ (λ b p₂ q₂.
-      tag-and s N (at + 1) b _ (λ m e p₃ q₃. to-fits (at + 1) e _ (omega arith)) (tag-reach s b)))
+      tag-and s N (at + 1) b _ (λ m e p₃ q₃. row-fits (at + 1) e _ span-filled (omega arith)) (tag-reach s b)))

@@ -31,7 +31,7 @@ pub record OnLine (top a l : ℕ) (s : List ℕ) (r : Row) : Type 0 where
 
 rising-le : (s : List ℕ) (k j : ℕ) (ds : List Detail) → Rising anyKinds s k j ds → k ≤ j
 rising-le s k j [] r = r
-rising-le s k j (d ∷ ds) r = omega (arith, r .0, rising-le s (d .start) j ds (r .3))
+rising-le s k j (d ∷ ds) r = omega (arith, r .0, rising-le s (d .start) j ds (r .2))
 
 -- the byte before a place of a part's
 mid-taken : (n i : ℕ) (s : List ℕ) → i ≤ n → midLine (take n s) i ≡ midLine s i
@@ -43,18 +43,18 @@ details-lines : (s : List ℕ) (n k : ℕ) (ds : List Detail) → n ≤ length s
 unfolding detailRow rowOf
 details-lines s n k [] h r = tt
 details-lines s n k (d ∷ ds) h r =
-    let le = rising-le s (d .start) n ds (r .3) in
+    let le = rising-le s (d .start) n ds (r .2) in
     let len = length-take-le n s h in (
       record {
         into = d .start;
         inside = omega arith;
-        early = rw (mid-taken n (d .start) s le) (omega (arith, r .1));
+        early = rw (mid-taken n (d .start) s le) (omega (arith, r .0));
         place = omega arith;
         lines = omega arith;
-        ends = omega (arith, r .2);
-        kind = omega (arith, r .2);
+        ends = omega (arith, r .0);
+        kind = omega (arith, r .0);
       },
-      details-lines s n (d .start) ds h (r .3),
+      details-lines s n (d .start) ds h (r .2),
     )
 
 pub entry-lines : (s : List ℕ) (n : ℕ) (rs : List Row) → entryOf s ≡ got n rs → Each (OnLine refusalKind 0 0 (take n s)) rs

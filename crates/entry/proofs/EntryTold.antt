@@ -1,9 +1,9 @@
 -- Rules 1 and 4: which details an entry has, by its kind. They stand in order of start within its bytes, and are no more than these.
-use Prim.Native.Nat.{ℕ, _+_, _*_, _≤_, _<_}
+use Prim.Native.Nat.{ℕ, _+_, _≤_, _<_}
 use Prim.Native.String.{String}
 use native.Mathlib.Omega.{arith}
 use mathlib.Core.Path.{_≡_, refl, sym, _∙_, ap, subst}
-use mathlib.Core.Bool.{Bool, true, false, cond, _&&_}
+use mathlib.Core.Bool.{Bool, true, false, cond}
 use mathlib.Core.Logic.{_⊎_, inl, inr}
 use borrow.Author.Tests.{eqb-true, ne-eqb, leb-true}
 use mathlib.Core.List.{List, [], _∷_}
@@ -13,14 +13,13 @@ use Rattle.text.specs.Bytes.{bytes, isDigit, isSmall, inLine}
 use Rattle.text.specs.Words.{startsWith, wordAt}
 use Rattle.text.specs.Run.{runTo, blanks}
 use Rattle.text.specs.Lines.{gapAt}
-use Rattle.text.specs.Dates.{likeShape, dateShape, two, dateIn, dateAt}
 use Rattle.text.specs.declared.Read.{Read}
-use Rattle.text.specs.declared.date.Dated.{Dated}
 use Rattle.text.specs.Answer.{Ans, To, Miss, Hard, _then_, _and_, _else_, must}
-use Rattle.text.specs.Leaves.{token, dated, date, gap, word}
+use Rattle.text.specs.Leaves.{token, date, gap, word}
 use Rattle.text.proofs.TestLaws.{absurd-bool, and-left, and-right}
 use Rattle.text.proofs.Joins.{Reach}
 use Rattle.text.proofs.TokenEnds.{date-reach}
+use Rattle.text.proofs.DayLaws.{date-there}
 use Rattle.amount.specs.declared.detail.Detail.{Detail}
 use Rattle.amount.specs.Details.{Rows}
 use Rattle.row.specs.Details.{spanned}
@@ -61,8 +60,9 @@ digit-not-small : (b : ℕ) → isDigit b ≡ true → isSmall b ≡ true → �
 unfolding isDigit isSmall
 digit-not-small b d m = omega (arith, leb-true b 57 (and-right (leb 48 b) (leb b 57) d), leb-true 97 b (and-left (leb 97 b) (leb b 122) m))
 
+-- and of its date
 abbrev Tells : List ℕ → Ans Form → Type 0
-Tells s (To n f) = Told s n f
+Tells s (To n f) = Told s n f × (f .date < 100000000)
 Tells s Miss = Unit {0}
 Tells s (Hard k p) = Unit {0}
 
@@ -79,15 +79,15 @@ module _ (s : List ℕ) where
   then-tells n i Miss g r f = tt
   then-tells n i (Hard k p) g r f = tt
 
-  keyword-tells : (k d : ℕ) (a : Rows) → 7 ≤ k → k ≤ 13 → Fits s 1 a → Tells s (asEntry k d a)
+  keyword-tells : (k d : ℕ) (a : Rows) → d < 100000000 → 7 ≤ k → k ≤ 13 → Fits s 1 a → Tells s (asEntry k d a)
   unfolding asEntry
-  keyword-tells k d (To n rs) h i r = keyworded _ h i (r .rows)
-  keyword-tells k d Miss h i r = tt
-  keyword-tells k d (Hard m p) h i r = tt
+  keyword-tells k d (To n rs) l h i r = (keyworded _ h i (r .rows), l)
+  keyword-tells k d Miss l h i r = tt
+  keyword-tells k d (Hard m p) l h i r = tt
 
   word-tells : (k : ℕ) (a : Rows) → 2 ≤ k → k ≤ 5 → isSmall (getD s 0 0) ≡ true → Fits s 1 a → Tells s (asEntry k 0 a)
   unfolding asEntry
-  word-tells k (To n rs) h i m r = worded _ h i m (r .rows)
+  word-tells k (To n rs) h i m r = (worded _ h i m (r .rows), omega arith)
   word-tells k Miss h i m r = tt
   word-tells k (Hard j p) h i m r = tt
 
@@ -107,16 +107,18 @@ module _ (s : List ℕ) where
 
   txn-tells : (d g : ℕ) (a : Rows) → date s 0 ≡ To 10 d → g ≡ blanks s 10 → 1 ≤ g → g ≤ length s → transaction s g ≡ a → Opens s g a → Tells s (asEntry 6 d a)
   unfolding asEntry
-  txn-tells d g (To n rs) w e h l q o =
-      txn _ refl (omega (arith, e))
-      (record { dated = w; inside = omega (arith, e); reads = ap (transaction s) (sym e) ∙ q; opened = subst (λ i. Opened s i n rs) e o })
+  txn-tells d g (To n rs) w e h l q o = (
+    txn _ refl (omega (arith, e))
+        (record { dated = w; inside = omega (arith, e); reads = ap (transaction s) (sym e) ∙ q; opened = subst (λ i. Opened s i n rs) e o }),
+    date-there s 0 10 d w .0 .low,
+  )
   txn-tells d g Miss w e h l q o = tt
   txn-tells d g (Hard m p) w e h l q o = tt
 
   dateless-tells : (d g : ℕ) → date s 0 ≡ To 10 d → g ≡ blanks s 10 → 1 ≤ g → g ≤ length s → Tells s (dateless d s g)
   unfolding dateless
-  dateless-tells d g w e i h =
-      else-tells _ _ (txn-tells d g _ w e i h refl (transaction-opens s g h))
+  dateless-tells d g v e i h =
+      else-tells _ _ (txn-tells d g _ v e i h refl (transaction-opens s g h))
       (else-tells _ _ (key 7 "price" priceOf (omega arith) (omega arith) (price-of-reach s) (price-of-fits s))
       (else-tells _ _ (key 8 "balance" balanceOf (omega arith) (omega arith) (balance-of-reach s) (balance-of-fits s))
       (else-tells _ _ (key 9 "open" openOf (omega arith) (omega arith) (open-of-reach s) (open-of-fits s))
@@ -127,21 +129,9 @@ module _ (s : List ℕ) where
     where
       key : (k : ℕ) (w : String) (content : List ℕ → ℕ → Rows) → 7 ≤ k → k ≤ 13 → ((g : ℕ) → Reach (length s) (g + 1) (content s g)) → ((g : ℕ) → Fits s g (content s g))
           → Tells s (asEntry k d (keyword w content s g))
-      key k w content a b r u = keyword-tells k d _ a b (fits-from g 1 _ i (keyword-fits s w content r u g h))
+      key k w content a b r u = keyword-tells k d _ (date-there s 0 10 d v .0 .low) a b (fits-from g 1 _ i (keyword-fits s w content r u g h))
 
-  -- a date ends at 10, and a gap behind its blanks
-  date-ten : (j d : ℕ) → date s 0 ≡ To j d → j ≡ 10
-  unfolding date dated dateAt dateIn
-  date-ten j d e =
-      let m = two s (0 + 5) in
-      let k = two s (0 + 8) in
-      go (likeShape dateShape (drop 0 s)) (leb 1 m && leb m 12 && leb 1 k && leb k 31) (two s 0 * 1000000 + two s (0 + 2) * 10000 + m * 100 + k) e
-    where
-      go : (b c : Bool) (y : ℕ) → dated (cond b (cond c (Dated.On (0 + 10) y) Dated.Miss) Dated.Miss) ≡ To j d → j ≡ 10
-      go true true y e = let z : _≡_ {A = ℕ} 10 j = cc in sym z
-      go true false y e = absurd (let z : _≡_ {A = ℕ} 0 1 = cc in omega arith)
-      go false c y e = absurd (let z : _≡_ {A = ℕ} 0 1 = cc in omega arith)
-
+  -- a gap ends behind its blanks
   gap-blanks : (at j : ℕ) (x : List Detail) → hardGap s at ≡ To j x → j ≡ blanks s at
   unfolding hardGap must gap token gapAt
   gap-blanks at j x e = go (ltb at (blanks s at)) e
@@ -155,14 +145,15 @@ module _ (s : List ℕ) where
   directive-tells =
       then-tells (length s) 10 (date s 0) _ (date-reach s 0 (omega arith)) (λ e d q p₁ q₁.
       then-tells (length s) (e + 1) (hardGap s e) _ (hard-gap-reach s e q₁) (λ g x z p₂ q₂.
-      dateless-tells d g (q ∙ ap (λ (i : ℕ). To i d) (date-ten e d q)) (gap-blanks e g x z ∙ ap (blanks s) (date-ten e d q)) (omega arith) q₂))
+      let ten = date-there s 0 e d q .1 in
+      dateless-tells d g (q ∙ ap (λ (i : ℕ). To i d) ten) (gap-blanks e g x z ∙ ap (blanks s) ten) (omega arith) q₂))
 
   blank-tells : Tells s (blank s)
   unfolding blank asEntry
   blank-tells = on (eqb (getD s (runTo inLine s 0) 0) 10)
     where
       on : (c : Bool) → Tells s (cond c (asEntry 1 0 (To (runTo inLine s 0 + 1) [])) Miss)
-      on true = line _ refl refl (omega arith)
+      on true = (line _ refl refl (omega arith), omega arith)
       on false = tt
 
   form-tells : Tells s (formOf s)
@@ -175,7 +166,10 @@ module _ (s : List ℕ) where
       (else-tells _ _ (first-tells 5 112 _ _ (omega arith) (omega arith) refl (tagged-fits s "poptag" 0 (omega arith))) blank-tells))))
 
   pub form-told : (n : ℕ) (f : Form) → formOf s ≡ To n f → Told s n f
-  form-told n f e = subst (Tells s) e form-tells
+  form-told n f e = subst (Tells s) e form-tells .0
+
+  pub form-date : (n : ℕ) (f : Form) → formOf s ≡ To n f → f .date < 100000000
+  form-date n f e = subst (Tells s) e form-tells .1
 
   -- so they stand in order, a transaction's flag among them
   told-placed : (n : ℕ) {f : Form} → Told s n f → Placed anyKinds s 1 n (f .details)

@@ -67,7 +67,7 @@ quiet-rows : (a : ℕ) (s u : List ℕ) (k j : ℕ) (ds : List Detail) (w : Read
 unfolding badFrom detailRow rowOf
 quiet-rows a s u k j [] w h = refl
 quiet-rows a s u k j (d ∷ ds) w h =
-    rw (quiet-row s (detailRow u d) (λ e. omega (arith, h .2)) (λ e. omega (arith, h .2))) (quiet-rows a s u (d .start) j ds w (h .3))
+    rw (quiet-row s (detailRow u d) (λ e. omega (arith, h .0)) (λ e. omega (arith, h .0))) (quiet-rows a s u (d .start) j ds w (h .2))
 
 -- an objection of an entry at place a, or w
 abbrev pub heldBy : ℕ → Objection → Reading → Reading

@@ -8,6 +8,7 @@ pub mod PartLaws
 pub mod LinedRows
 pub mod ReadLaws
 pub mod Places
+pub mod HeldRows
 pub mod ExpressionPlaces
 pub mod PostingPlaces
 pub mod EntryPlaces

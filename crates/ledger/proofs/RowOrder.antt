@@ -33,7 +33,7 @@ rises-moved a l k j (r ∷ rs) h = (omega (arith, h .0), rises-moved a l (r .sta
 details-rise : (s : List ℕ) (k j : ℕ) (u : List ℕ) (ds : List Detail) → Rising anyKinds s k j ds → Rises k j (map (detailRow u) ds)
 unfolding detailRow rowOf
 details-rise s k j u [] h = h
-details-rise s k j u (d ∷ ds) h = (h .0, details-rise s (d .start) j u ds (h .3))
+details-rise s k j u (d ∷ ds) h = (h .0 .0, details-rise s (d .start) j u ds (h .2))
 
 pub entry-rises : (s : List ℕ) (n : ℕ) (rs : List Row) → entryOf s ≡ got n rs → Rises 0 n rs
 unfolding rowsOf rowOf

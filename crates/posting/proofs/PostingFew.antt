@@ -1,14 +1,17 @@
 -- Rules 12, 13 and 16: rows stand in order within their bytes, and are no more than these.
-use Prim.Native.Nat.{ℕ, suc, _+_, _-_, _≤_}
+use Prim.Native.Nat.{ℕ, suc, _+_, _-_, _≤_, _<_}
 use native.Mathlib.Omega.{arith}
-use mathlib.Core.Path.{_≡_, refl}
+use mathlib.Core.Path.{_≡_, refl, subst}
+use mathlib.Core.Logic.{inl, inr}
 use mathlib.Core.List.{List, [], _∷_}
 use lib.ListN.{length, getD}
 use Rattle.text.specs.Bytes.{isBlank}
 use Rattle.text.specs.Run.{blanks}
-use Rattle.text.specs.Answer.{To, Miss, Hard, _and_, more, maybe}
+use Rattle.text.specs.Answer.{Ans, To, Miss, Hard, _then_, _and_, _else_, more, maybe}
 use Rattle.text.specs.Leaves.{gap, lineEnd, emptyLine, date, account, currency, byte}
 use Rattle.text.proofs.Joins.{to-reach, reach-from}
+use Rattle.text.proofs.Inversions.{to-inv, else-inv, then-inv}
+use Rattle.text.proofs.DayLaws.{date-there}
 use Rattle.text.proofs.TokenEnds.{run-reach, gap-reach, line-reach, empty-reach, string-reach, account-reach, currency-reach, byte-reach, date-reach}
 use Rattle.amount.specs.declared.detail.Detail.{Detail}
 use Rattle.amount.specs.Details.{Rows, named}
@@ -16,7 +19,8 @@ use Rattle.amount.specs.Expression.{expression}
 use Rattle.amount.specs.Amounts.{amount}
 use Rattle.amount.proofs.ExpressionEnds.{expression-reach}
 use Rattle.amount.proofs.AmountLaws.{amount-reach}
-use Rattle.amount.proofs.RowCounts.{Kinds, partKinds, metaKinds, midLine, Rising, placed-wide, Holds, FitsFrom, Fits, to-fits, fits-from, fits-wide, else-fits, then-rows, then-fits, and-fits, maybe-fits, many-fits, Bare, token-bare, test-bare, bare-fits, bare-and, gap-bare, line-bare, empty-bare, account-bare, currency-bare, byte-bare, string-and}
+use Rattle.amount.proofs.ValueSizes.{zero-small, read-small}
+use Rattle.amount.proofs.RowCounts.{Kinds, partKinds, metaKinds, midLine, unset, day, flagged, Filled, named-filled, valued-filled, Rising, placed-wide, Holds, FitsFrom, Fits, to-fits, fits-at, fits-from, fits-wide, else-fits, row-fits, then-rows, then-read, then-fits, and-fits, maybe-fits, many-fits, Bare, token-bare, test-bare, bare-fits, bare-and, gap-bare, line-bare, empty-bare, account-bare, currency-bare, byte-bare, string-and}
 use Rattle.amount.proofs.AmountFew.{amount-fits}
 use Rattle.posting.specs.Metadata.{key, quoted, value, metaLine, metaStep, metadata}
 use Rattle.posting.specs.Costs.{price, comma, Lot, inside, cost}
@@ -42,18 +46,20 @@ module _ (s : List ℕ) where
 
   -- ---- rule 16
 
-  pub quoted-fits : {K : Kinds} (row : ℕ → ℕ → Detail) (k at : ℕ) → (midLine s (at + 1) ≡ 1 → (e : ℕ) → at + 1 ≤ e → Rising K s k e (row (at + 1) (e - 1) ∷ [])) → k ≤ at → FitsFrom K s k (quoted row s at)
+  pub quoted-fits : {K : Kinds} (row : ℕ → ℕ → Detail) (k at : ℕ) → (midLine s (at + 1) ≡ 1 → (e : ℕ) → at + 1 ≤ e → e ≤ N → Rising K s k e (row (at + 1) (e - 1) ∷ [])) → k ≤ at → FitsFrom K s k (quoted row s at)
   unfolding quoted
-  quoted-fits row k at f h = string-and s N k at _ (λ m e p q. to-fits k e _ (f m e p, omega arith)) (string-reach s at)
+  quoted-fits row k at f h = string-and s N k at _ (λ m e p q. to-fits k e _ (f m e p q, omega arith)) (string-reach s at)
 
   -- a metadata row spans its key
   pub value-fits : (k c at : ℕ) → k ≤ at → c ≤ at → FitsFrom metaKinds s k (value k c s at)
   unfolding value
   value-fits k c at h g =
-      else-fits k _ _ (quoted-fits (named 35 k c) k at (λ m e p. omega arith) h)
+      else-fits k _ _ (quoted-fits (named 35 k c) k at (λ m e p q. (omega arith, named-filled (λ z. omega arith) (omega arith) (omega arith), omega arith)) h)
       (else-fits k _ _
-      (then-fits N (at + 1) k (expression s at) _ (expression-reach s at) (λ e v p q. to-fits k e _ (omega arith)))
-      (bare-and N (at + 1) k (currency s at) _ (currency-reach s at) (currency-bare s at) (λ e p q. to-fits k e _ (omega arith))))
+      (then-read N (at + 1) k (expression s at) _ (expression-reach s at) (λ e v w p q.
+      row-fits k e _ (valued-filled (λ z. omega arith) (omega arith) q (read-small s at e v w)) (omega arith)))
+      (bare-and N (at + 1) k (currency s at) _ (currency-reach s at) (currency-bare s at) (λ e p q.
+      row-fits k e _ (named-filled (λ z. omega arith) (omega arith) q) (omega arith))))
 
   pub key-bare : (at : ℕ) → Bare (key s at)
   unfolding key
@@ -122,22 +128,69 @@ module _ (s : List ℕ) where
       (then-fits N (at + 10) at (date s at) _ (date-reach s at h) (λ e d p₁ q₁. to-fits at e _ (omega arith)))
       (to-fits at at _ (omega arith)))))
 
+  -- its date
+  abbrev Dated : Ans Lot → Type 0
+  Dated (To e l) = l .when < 100000000
+  Dated Miss = Unit {0}
+  Dated (Hard k p) = Unit {0}
+
+  else-dated : (a b : Ans Lot) → Dated a → Dated b → Dated (a else b)
+  unfolding _else_
+  else-dated (To e l) b p q = p
+  else-dated Miss b p q = q
+  else-dated (Hard k i) b p q = tt
+
+  then-dated : {A : Type 0} (a : Ans A) (g : ℕ → A → Ans Lot) → ((j : ℕ) (x : A) → a ≡ To j x → Dated (g j x)) → Dated (a then g)
+  unfolding _then_
+  then-dated (To j x) g f = f j x refl
+  then-dated Miss g f = tt
+  then-dated (Hard k p) g f = tt
+
+  inside-dated : (at : ℕ) → Dated (inside s at)
+  unfolding inside
+  inside-dated at =
+      else-dated _ _ (then-dated _ _ (λ i rs x. then-dated _ _ (λ j c y. then-dated _ _ (λ e d z. date-there s j e d z .0 .low))))
+      (else-dated _ _ (then-dated _ _ (λ i d x. then-dated _ _ (λ j c y. then-dated _ _ (λ e rs z. date-there s at i d x .0 .low))))
+      (else-dated _ _ (then-dated _ _ (λ e rs x. omega arith)) (else-dated _ _ (then-dated _ _ (λ e d x. date-there s at e d x .0 .low)) (omega arith))))
+
   pub cost-fits : (at : ℕ) → FitsFrom partKinds s at (cost s at)
   unfolding cost
   cost-fits at =
       bare-and N (at + 1) at (byte 123 s at) _ (byte-reach s at 123 (omega arith)) (byte-bare s at 123) (λ i p₁ q₁.
       let b = blanks s i in
       let r = run-reach isBlank s i q₁ in
-      then-rows held N b b at (inside s b) _ (inside-reach s b (r .1)) (inside-fits b (r .1)) (λ e l p₂ q₂ r₂.
+      then-read N b at (inside s b) _ (inside-reach s b (r .1)) (λ e l v p₂ q₂.
+      let r₂ = fits-at b e l (inside s b) (inside-fits b (r .1)) v in
       let w = run-reach isBlank s e q₂ in
       bare-and N (blanks s e + 1) at (byte 125 s (blanks s e)) _ (byte-reach s (blanks s e) 125 (omega arith)) (byte-bare s (blanks s e) 125) (λ f p₃ q₃.
-      to-fits at f _ ((omega arith, omega arith, omega arith, placed-wide partKinds partKinds s b e at f (l .rows) (omega arith) (omega arith) (omega arith) r₂ .0), omega arith))))
+      to-fits at f _ (
+        (
+          omega arith,
+          record { second = day refl (subst Dated v (inside-dated b)); q-in = omega arith; small = zero-small },
+          placed-wide partKinds partKinds s b e at f (l .rows) (omega arith) (omega arith) (omega arith) r₂ .0,
+        ),
+        omega arith,
+      ))))
 
   -- ---- rule 12
 
   pub flag-bare : (at : ℕ) → Bare (flag s at)
   unfolding flag
   flag-bare at = test-bare (isFlag (getD s at 0)) (at + 1)
+
+  -- its p is the byte of its flag, or 0
+  posting-filled : (g a e f : ℕ) → postingFlag s g ≡ To a f → Filled s (named 33 a e f 0)
+  unfolding postingFlag
+  posting-filled g a e f x =
+      record {
+        second =
+            elim (else-inv _ _ a f x) [
+              | inl y ↦ let z = then-inv _ _ a f (then-inv _ _ a f y .3) in flagged refl g (to-inv (z .0) a (getD s g 0) f (z .3) .1)
+              | inr y ↦ unset (to-inv g a 0 f (y .1) .1)
+            ];
+        q-in = omega arith;
+        small = zero-small;
+      }
 
   pub units-fits : (at : ℕ) → at ≤ N → FitsFrom partKinds s at (units s at)
   unfolding units
@@ -153,9 +206,9 @@ module _ (s : List ℕ) where
   unfolding postingLine
   posting-line-fits at h =
       gap-and at at _ h (λ g p₁ q₁.
-      then-fits N g at (postingFlag s g) _ (posting-flag-reach s g q₁) (λ a f p₂ q₂.
+      then-read N g at (postingFlag s g) _ (posting-flag-reach s g q₁) (λ a f v p₂ q₂.
       bare-and N (a + 1) at (account s a) _ (account-reach s a) (account-bare s a) (λ e p₃ q₃.
-      and-fits N e at (To e _) _ (to-reach N e e _ (omega arith) q₃) (to-fits at e _ (omega arith)) (λ e p₄ q₄.
+      and-fits N e at (To e _) _ (to-reach N e e _ (omega arith) q₃) (row-fits at e _ (posting-filled g a e f v) (omega arith)) (λ e p₄ q₄.
       and-fits N e e (maybe e (units s e)) _ (optional-reach N e _ q₄ (units-reach s e q₄)) (fits-wide _ e _ (omega arith) (maybe-fits e _ (units-fits e q₄))) (λ m p₅ q₅. line-fits m q₅)))))
 
   pub posting-fits : (at : ℕ) → at ≤ N → Fits s at (posting s at)

@@ -6,18 +6,14 @@ use native.Mathlib.Omega.{arith}
 use mathlib.Core.Path.{_≡_, refl, sym, _∙_, ap, subst}
 use mathlib.Core.List.{List, [], _∷_, _++_}
 use lib.ListN.{length}
-use Rattle.decimal.specs.declared.Value.{Value}
 use Rattle.text.specs.Answer.{Ans, To, Miss, Hard, _then_, _and_, _else_, more, maybe}
-use Rattle.text.specs.Leaves.{gap, currency, account, lineEnd, emptyLine}
+use Rattle.text.specs.Leaves.{gap, account, lineEnd, emptyLine}
 use Rattle.text.proofs.Joins.{Reach}
-use Rattle.text.proofs.TokenEnds.{gap-reach, currency-reach, account-reach}
+use Rattle.text.proofs.TokenEnds.{gap-reach, account-reach}
 use Rattle.amount.specs.declared.detail.Detail.{Detail}
 use Rattle.amount.specs.Details.{Rows, named}
-use Rattle.amount.specs.Expression.{expression}
-use Rattle.amount.specs.Amounts.{amount}
-use Rattle.amount.proofs.ExpressionEnds.{expression-reach}
-use Rattle.amount.proofs.ValueSizes.{Small, Smalls, expression-small}
-use Rattle.amount.proofs.RowCounts.{Kinds, flagKind, refusalKind, postingKind, partKinds, metaKinds, Of, Rising, FitsFrom, maybe-fits, and-fits, Bare, gap-bare, line-bare, empty-bare, account-bare, currency-bare}
+use Rattle.amount.proofs.ValueSizes.{Small}
+use Rattle.amount.proofs.RowCounts.{Kinds, flagKind, refusalKind, postingKind, partKinds, metaKinds, Of, Second, unset, within, day, flagged, Filled, Rising, FitsFrom, maybe-fits, and-fits, Bare, gap-bare, empty-bare, account-bare}
 use Rattle.row.proofs.SureLaws.{Sure, sure-to, sure-hard}
 use Rattle.posting.specs.Metadata.{metadata}
 use Rattle.posting.specs.Postings.{postingFlag, units, postingLine, posting, bodyStep, body}
@@ -46,7 +42,7 @@ Apart K = (k : ℕ) → Of K k → (flagKind ≤ k) × (k < refusalKind) × (k �
 
 pub rising-others : (K : Kinds) → Apart K → (s : List ℕ) (k j : ℕ) (ds : List Detail) → Rising K s k j ds → Others ds
 rising-others K h s k j [] r = tt
-rising-others K h s k j (d ∷ ds) r = (h (d .kind) (r .2 .0, r .2 .1), rising-others K h s (d .start) j ds (r .3))
+rising-others K h s k j (d ∷ ds) r = (h (d .kind) (r .0 .2, r .0 .3), rising-others K h s (d .start) j ds (r .2))
 
 abbrev pub below : Apart partKinds
 below k h = (omega (arith, h), omega (arith, h), λ e. omega (arith, h))
@@ -66,78 +62,18 @@ abbrev pub Next : ℕ → List Detail → Type 0
 Next n [] = Unit {0}
 Next n (d ∷ ds) = d .kind ≡ 26 → Amounted n d
 
--- an answer whose rows start with one of which P holds, with those behind it
-abbrev First : (Detail → List Detail → Type 0) → Rows → Type 0
-First P (To j []) = ⊥
-First P (To j (d ∷ ds)) = P d ds
-First P Miss = Unit {0}
-First P (Hard k p) = Unit {0}
-
-first-bare : (P : Detail → List Detail → Type 0) (n i : ℕ) (a : Rows) (g : ℕ → Rows) → Reach n i a → Bare a
-    → ((j : ℕ) → i ≤ j → j ≤ n → First P (g j)) → First P (a and g)
-unfolding _and_ more
-first-bare P n i (To j xs) g r b f = rw (b .none) (on (g j) (f j (r .ends .0) (r .ends .1)))
+filled-amount : {s : List ℕ} (d : Detail) → Filled s d → d .kind ≡ 26 → Amounted (length s) d
+filled-amount {s} d f k = record { p-in = on (f .second); q-in = f .q-in; small = f .small }
   where
-    on : (a : Rows) → First P a → First P (more [] a)
-    on (To k []) h = h
-    on (To k (d ∷ ds)) h = h
-    on Miss h = h
-    on (Hard k p) h = h
-first-bare P n i Miss g r b f = tt
-first-bare P n i (Hard k p) g r b f = tt
+    on : Second s d → d .p ≤ length s
+    on (unset e) = omega (arith, e)
+    on (within n h) = h
+    on (day e h) = absurd (omega (arith, k, e))
+    on (flagged e i h) = absurd (omega (arith, k, e))
 
-abbrev Starting : ℕ → Detail → List Detail → Type 0
-Starting n d ds = Amounted n d
-
-abbrev Firm : ℕ → Rows → Type 0
-Firm n a = First (Starting n) a
-
--- a value that is read, and what follows
-firm-value : (n i : ℕ) (a : Ans Value) (g : ℕ → Value → Rows) → Reach n i a → Smalls a → ((e : ℕ) (v : Value) → e ≤ n → Small v → Firm n (g e v)) → Firm n (a then g)
-unfolding _then_
-firm-value n i (To e v) g r h f = f e v (r .ends .1) (h .holds)
-firm-value n i Miss g r h f = tt
-firm-value n i (Hard k p) g r h f = tt
-
-amount-firm : (s : List ℕ) (at : ℕ) → Firm (length s) (amount 26 s at)
-unfolding amount
-amount-firm s at =
-    let N = length s in
-    firm-value N (at + 1) (expression s at) _ (expression-reach s at) (expression-small s at) (λ e v q h.
-    first-bare (Starting N) N (e + 1) (gap s e) _ (gap-reach s e q) (gap-bare s e) (λ c p₁ q₁.
-    first-bare (Starting N) N (c + 1) (currency s c) _ (currency-reach s c) (currency-bare s c) (λ d p₂ q₂. record { p-in = q₁; q-in = q₂; small = h })))
-
-abbrev Nexts : ℕ → Rows → Type 0
-Nexts n (To j ds) = Next n ds
-Nexts n Miss = Unit {0}
-Nexts n (Hard k p) = Unit {0}
-
-bare-nexts : (n : ℕ) (a : Rows) (g : ℕ → Rows) → Bare a → ((j : ℕ) → Nexts n (g j)) → Nexts n (a and g)
-unfolding _and_ more
-bare-nexts n (To j xs) g b f = rw (b .none) (on (g j) (f j))
-  where
-    on : (a : Rows) → Nexts n a → Nexts n (more [] a)
-    on (To k ds) h = h
-    on Miss h = h
-    on (Hard k p) h = h
-bare-nexts n Miss g b f = tt
-bare-nexts n (Hard k p) g b f = tt
-
-firm-nexts : (n : ℕ) (a : Rows) (g : ℕ → Rows) → Firm n a → Nexts n (a and g)
-unfolding _and_ more
-firm-nexts n (To j []) g h = absurd h
-firm-nexts n (To j (d ∷ ds)) g h = on (g j)
-  where
-    on : (a : Rows) → Nexts n (more (d ∷ ds) a)
-    on (To k es) = λ e. h
-    on Miss = tt
-    on (Hard k p) = tt
-firm-nexts n Miss g h = tt
-firm-nexts n (Hard k p) g h = tt
-
-units-nexts : (s : List ℕ) (at : ℕ) → Nexts (length s) (units s at)
-unfolding units
-units-nexts s at = bare-nexts (length s) (gap s at) _ (gap-bare s at) (λ g. firm-nexts (length s) (amount 26 s g) _ (amount-firm s g))
+rising-next : (K : Kinds) (s : List ℕ) (k j : ℕ) (ds : List Detail) → Rising K s k j ds → Next (length s) ds
+rising-next K s k j [] r = tt
+rising-next K s k j (d ∷ ds) r = filled-amount d (r .1)
 
 -- ---- the row of a posting, and those that follow it, in a text of n bytes
 
@@ -152,8 +88,24 @@ abbrev pub Shape : ℕ → List Detail → Type 0
 Shape n [] = Unit {0}
 Shape n (x ∷ us) = Post n x us
 
+-- an answer whose rows start with a posting's
 abbrev Led : ℕ → Rows → Type 0
-Led n a = First (Post n) a
+Led n (To j []) = ⊥
+Led n (To j (d ∷ ds)) = Post n d ds
+Led n Miss = Unit {0}
+Led n (Hard k p) = Unit {0}
+
+led-bare : (n i : ℕ) (a : Rows) (g : ℕ → Rows) → Reach n i a → Bare a → ((j : ℕ) → i ≤ j → j ≤ n → Led n (g j)) → Led n (a and g)
+unfolding _and_ more
+led-bare n i (To j xs) g r b f = rw (b .none) (on (g j) (f j (r .ends .0) (r .ends .1)))
+  where
+    on : (a : Rows) → Led n a → Led n (more [] a)
+    on (To k []) h = h
+    on (To k (d ∷ ds)) h = h
+    on Miss h = h
+    on (Hard k p) h = h
+led-bare n i Miss g r b f = tt
+led-bare n i (Hard k p) g r b f = tt
 
 led-then : {A : Type 0} (n i : ℕ) (a : Ans A) (g : ℕ → A → Rows) → Reach n i a → ((j : ℕ) (x : A) → j ≤ n → Led n (g j x)) → Led n (a then g)
 unfolding _then_
@@ -161,34 +113,12 @@ led-then n i (To j x) g r f = f j x (r .ends .1)
 led-then n i Miss g r f = tt
 led-then n i (Hard k p) g r f = tt
 
--- what follows the posting's own row in its line: at its front an amount, if anything
-maybe-nexts : (n i : ℕ) (a : Rows) (g : ℕ → Rows) → Nexts n a → ((j : ℕ) → Bare (g j)) → Nexts n (maybe i a and g)
-unfolding maybe _and_ more
-maybe-nexts n i (To j []) g h b = on (g j) (b j)
-  where
-    on : (a : Rows) → Bare a → Nexts n (more [] a)
-    on (To k ds) e = rw (e .none) tt
-    on Miss e = tt
-    on (Hard k p) e = tt
-maybe-nexts n i (To j (d ∷ ds)) g h b = on (g j)
-  where
-    on : (a : Rows) → Nexts n (more (d ∷ ds) a)
-    on (To k es) = h
-    on Miss = tt
-    on (Hard k p) = tt
-maybe-nexts n i Miss g h b = on (g i) (b i)
-  where
-    on : (a : Rows) → Bare a → Nexts n (more [] a)
-    on (To k ds) e = rw (e .none) tt
-    on Miss e = tt
-    on (Hard k p) e = tt
-maybe-nexts n i (Hard k p) g h b = tt
-
-own-led : (n e : ℕ) (x : Detail) (a : Rows) → x .kind ≡ postingKind → x .start ≤ n → x .end ≤ n → {s : List ℕ} → FitsFrom partKinds s e a → Nexts n a → Led n (more (x ∷ []) a)
+own-led : (s : List ℕ) (e : ℕ) (x : Detail) (a : Rows) → x .kind ≡ postingKind → x .start ≤ length s → x .end ≤ length s → FitsFrom partKinds s e a → Led (length s) (more (x ∷ []) a)
 unfolding more
-own-led n e x (To j us) k l m {s} f h = record { kind = k; start = l; end = m; others = rising-others partKinds below s e j us (f .rows .0); amount = h }
-own-led n e x Miss k l m f h = tt
-own-led n e x (Hard i p) k l m f h = tt
+own-led s e x (To j us) k l m f =
+    record { kind = k; start = l; end = m; others = rising-others partKinds below s e j us (f .rows .0); amount = rising-next partKinds s e j us (f .rows .0) }
+own-led s e x Miss k l m f = tt
+own-led s e x (Hard i p) k l m f = tt
 
 -- and its metadata
 with-metadata : (n : ℕ) (x : Detail) (us : List Detail) (e : ℕ) {s : List ℕ} (a : Rows) → Post n x us → FitsFrom metaKinds s e a → Led n (more (x ∷ us) a)
@@ -204,7 +134,7 @@ with-metadata n x us e {s} (To j ms) h f =
   where
     first : (us ms : List Detail) → Next n us → Rising metaKinds s e j ms → Next n (us ++ ms)
     first [] [] g r = tt
-    first [] (m ∷ ms) g r = λ z. absurd (omega (arith, r .2))
+    first [] (m ∷ ms) g r = λ z. absurd (omega (arith, r .0))
     first (u ∷ us) ms g r = g
 with-metadata n x us e Miss h f = tt
 with-metadata n x us e (Hard k p) h f = tt
@@ -223,16 +153,15 @@ module _ (s : List ℕ) where
   units-led : (a e f : ℕ) → a ≤ N → e ≤ N → Led N (To e (named 33 a e f 0 ∷ []) and λ i. maybe i (units s i) and λ m. lineEnd s m)
   unfolding _and_
   units-led a e f h l =
-      own-led N e (named 33 a e f 0) _ refl h l
+      own-led s e (named 33 a e f 0) _ refl h l
       (and-fits N e e (maybe e (units s e)) _ (optional-reach N e _ l (units-reach s e l)) (maybe-fits e _ (units-fits s e l)) (λ m p q. line-fits s m q))
-      (maybe-nexts N e (units s e) _ (units-nexts s e) (line-bare s))
 
   line-led : (at : ℕ) → at ≤ N → Led N (postingLine s at)
   unfolding postingLine
   line-led at h =
-      first-bare (Post N) N (at + 1) (gap s at) _ (gap-reach s at h) (gap-bare s at) (λ g p₁ q₁.
+      led-bare N (at + 1) (gap s at) _ (gap-reach s at h) (gap-bare s at) (λ g p₁ q₁.
       led-then N g (postingFlag s g) _ (posting-flag-reach s g q₁) (λ a f q₂.
-      first-bare (Post N) N (a + 1) (account s a) _ (account-reach s a) (account-bare s a) (λ e p₃ q₃. units-led a e f q₂ q₃)))
+      led-bare N (a + 1) (account s a) _ (account-reach s a) (account-bare s a) (λ e p₃ q₃. units-led a e f q₂ q₃)))
 
   posting-led : (at : ℕ) → at ≤ N → Led N (posting s at)
   unfolding posting

@@ -9,13 +9,8 @@ use lib.Seq.{take-at, take-all, take-append-add, length-take-le}
 use Rattle.row.specs.declared.table.Row.{Row}
 use Rattle.row.specs.Row.{rowsBytes, pour, placeOf}
 use Rattle.row.specs.steps.Writing.{Poured}
-use Rattle.row.proofs.PourLaws.{length-rowBytes, length-pour, pour-all, pour-append, pourAt-zero, pourAt-at}
+use Rattle.row.proofs.PourLaws.{length-rowsBytes, length-pour, pour-all, pour-append, pourAt-zero, pourAt-at}
 use Rattle.recovery.specs.steps.Front.{Front}
-
-pub length-rowsBytes : (rs : List Row) → length (rowsBytes rs) ≡ length rs * 32
-unfolding rowsBytes
-length-rowsBytes [] = refl
-length-rowsBytes (r ∷ rs) = rw (length-append, length-rowBytes, length-rowsBytes rs) (omega arith)
 
 pub rows-append : (xs ys : List Row) → rowsBytes (xs ++ ys) ≡ rowsBytes xs ++ rowsBytes ys
 unfolding rowsBytes

@@ -1,6 +1,7 @@
 pub mod FieldLaws
 pub mod ReadBack
 pub mod PourLaws
+pub mod WorkLaws
 pub mod TableLaws
 pub mod WriteLaws
 pub mod LineLaws

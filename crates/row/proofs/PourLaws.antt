@@ -25,6 +25,11 @@ pub length-rowBytes : (r : Row) → length (rowBytes r) ≡ 32
 unfolding rowBytes
 length-rowBytes r = refl
 
+pub length-rowsBytes : (rs : List Row) → length (rowsBytes rs) ≡ length rs * 32
+unfolding rowsBytes
+length-rowsBytes [] = refl
+length-rowsBytes (r ∷ rs) = rw (length-append, length-rowBytes, length-rowsBytes rs) (omega arith)
+
 -- ---- rows from the front on
 
 pub pour-none : (t : List ℕ) → pour [] t ≡ t

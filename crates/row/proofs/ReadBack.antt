@@ -1,13 +1,25 @@
--- A row as its 32 bytes say it: each field modulo its width, and the row itself where its fields are held.
-use Prim.Native.Nat.{ℕ, _<_}
+-- A row as its 32 bytes say it: each field modulo its width, and the row itself where its fields are held; rows at the
+-- front of a table.
+use Prim.Native.Nat.{ℕ, zero, suc, _≤_, _<_}
 use native.Mathlib.Nat.{mod-eq-of-lt}
-use mathlib.Core.Path.{_≡_, refl, _∙_}
-use mathlib.Core.List.{List, _++_}
+use native.Mathlib.Omega.{arith}
+use mathlib.Core.Path.{_≡_, refl, _∙_, ap}
+use mathlib.Core.Bool.{Bool, true, false, cond}
+use mathlib.Core.List.{List, [], _∷_, _++_, map, append-assoc}
+use lib.IntN.{pos, negℤ}
+use lib.ListN.{length, drop}
+use lib.Seq.{drop-at}
+use Rattle.decimal.specs.Exact.{limit, twosOf}
+use Rattle.decimal.specs.declared.Value.{Value}
+use Rattle.decimal.specs.declared.Value.the-variants.{Known, Refused}
+use Rattle.amount.proofs.ValueSizes.{Small}
 use Rattle.row.specs.declared.table.Row.{Row}
 use Rattle.row.specs.Field.{le, un}
-use Rattle.row.specs.Row.{rowBytes, rowIn}
+use Rattle.row.specs.Row.{width, rowBytes, rowsBytes, rowIn, rowsIn}
+use Rattle.row.specs.Details.{millionths}
 use Rattle.row.specs.steps.Holding.{Held}
 use Rattle.row.proofs.FieldLaws.{un-le}
+use Rattle.row.proofs.PourLaws.{length-rowBytes}
 
 unfoldable pub wrapped : Row → Row
 wrapped r =
@@ -45,3 +57,27 @@ held-back r b h =
       four-back (r .q) (h .q),
       eight-back (r .bits) (h .bits),
     )
+
+-- rows at the front of a table
+pub rows-front : (rs : List Row) (b : List ℕ) → rowsIn (length rs) (rowsBytes rs ++ b) ≡ map wrapped rs
+unfolding rowsIn rowsBytes
+rows-front [] b = refl
+rows-front (r ∷ rs) b =
+    let x = rowsBytes rs ++ b in
+    let q : (rowBytes r ++ rowsBytes rs) ++ b ≡ rowBytes r ++ x = append-assoc (rowBytes r) (rowsBytes rs) b in
+    ap (λ (z : List ℕ). rowIn z ∷ rowsIn (length rs) (drop width z)) q
+    ∙ ap (λ (z : Row). z ∷ rowsIn (length rs) (drop width (rowBytes r ++ x))) (row-in r x)
+    ∙ ap (λ (z : List ℕ). wrapped r ∷ rowsIn (length rs) z) (drop-at (rowBytes r) x width (length-rowBytes r))
+    ∙ ap (λ (z : List Row). wrapped r ∷ z) (rows-front rs b)
+
+-- a value within the limit is held by eight bytes
+twos-low : (m : Bool) (n : ℕ) → n ≤ limit → twosOf (cond m (negℤ (pos n)) (pos n)) < 18446744073709551616
+unfolding twosOf
+twos-low true zero h = omega arith
+twos-low true (suc n) h = omega arith
+twos-low false n h = omega arith
+
+pub bits-low : (v : Value) → Small v → twosOf (millionths v) < 18446744073709551616
+unfolding millionths
+bits-low (Known d) h = twos-low (d .minus) (d .size) (h .holds)
+bits-low (Refused n) h = twos-low false 0 (omega arith)

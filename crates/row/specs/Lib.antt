@@ -1,5 +1,6 @@
 pub mod Field
 pub mod Row
+pub mod Work
 pub mod Details
 pub mod Strings
 pub mod steps

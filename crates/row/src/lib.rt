@@ -2,4 +2,5 @@
 mod field;
 pub mod lines;
 pub mod table;
+pub mod work;
 pub mod writer;

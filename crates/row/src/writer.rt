@@ -27,7 +27,7 @@ pub enum Ran {
 }
 
 // Kinds whose p and q are a span.
-fn is_spanned(kind: usize) -> bool
+pub fn is_spanned(kind: usize) -> bool
     ensures { λ r. ⌜ r ≡ spanned kind ⌝ }
 {
     (kind == 26) | (kind == 29) | (kind == 30) | (kind == 35) | (kind == 36) | (kind == 37)

@@ -13,6 +13,9 @@ pub mod StringLaws
 pub mod PermittedLaws
 pub mod PlainLaws
 pub mod Joins
+pub mod Inversions
+pub mod DayLaws
+pub mod Ats
 pub mod StringSame
 pub mod InLine
 pub mod Compared

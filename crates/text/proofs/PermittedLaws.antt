@@ -1,13 +1,14 @@
 -- The answers at bytes that a ledger may hold, each from what the code knows where it gives it.
-use Prim.Native.Nat.{ℕ, _+_, _≤_, _<_, min}
+use Prim.Native.Nat.{ℕ, zero, suc, _+_, _≤_, _<_, min}
 use native.Mathlib.Omega.{arith}
-use mathlib.Core.Path.{_≡_, sym, _∙_}
-use mathlib.Core.Bool.{Bool, true, false}
-use mathlib.Core.List.{List}
-use borrow.Author.Tests.{ne-eqb, le-leb, lt-leb}
+use mathlib.Core.Path.{_≡_, refl, sym, _∙_}
+use mathlib.Core.Bool.{Bool, true, false, cond}
+use mathlib.Core.List.{List, [], _∷_}
+use borrow.Author.Tests.{ne-eqb, le-leb, lt-leb, leb-true, leb-false}
 use lib.Dec.{leb, eqb}
 use lib.ListN.{length, drop, getD}
 use Rattle.text.specs.Permitted.{permitted, clean}
+use Rattle.text.proofs.TestLaws.{absurd-bool}
 use Rattle.text.proofs.Steps.{drop-step, head-drop}
 
 -- a byte b before the byte n
@@ -42,6 +43,25 @@ module _ (a : ℕ) (s : List ℕ) (i to : ℕ) (v : i + clean (drop i s) ≡ a) 
   pub clean-stop : (r : Bool) → r ≡ permitted (getD s i 0) (getD s (i + 1) 0) → r ≡ false → i ≡ min a to
   unfolding clean
   clean-stop r e t = omega (arith, rw (drop-step s i (omega arith), head-drop s (i + 1), sym e ∙ t) at v)
+
+-- ---- a text of which no byte is refused holds bytes
+
+permitted-low : (b n : ℕ) → permitted b n ≡ true → b < 256
+permitted-low b n e = go (leb b 126) refl
+  where
+    go : (t : Bool) → leb b 126 ≡ t → b < 256
+    go true f = omega (arith, leb-true b 126 f)
+    go false f = let l = leb-false b 126 f in absurd-bool (sym f ∙ shown b n (omega arith) ∙ e)
+
+pub clean-bytes : (s : List ℕ) → length s ≤ clean s → (i : ℕ) → getD s i 0 < 256
+unfolding clean
+clean-bytes [] h i = omega arith
+clean-bytes (b ∷ s) h i = go (permitted b (getD s 0 0)) refl h i (clean-bytes s)
+  where
+    go : (t : Bool) → permitted b (getD s 0 0) ≡ t → suc (length s) ≤ cond t (suc (clean s)) 0 → (i : ℕ) → (length s ≤ clean s → (j : ℕ) → getD s j 0 < 256) → getD (b ∷ s) i 0 < 256
+    go true e h zero f = permitted-low b (getD s 0 0) e
+    go true e h (suc i) f = f (omega arith) i
+    go false e h i f = absurd (omega arith)
 
 pub ruleset stand-laws = (shown, feed, tab, return, barred)
 

@@ -10,6 +10,7 @@ use lib.Dec.{leb}
 use lib.ListN.{length, take, drop, replicate, length-take, drop-of-length-le}
 use lib.Seq.{drop-at}
 use Rattle.row.specs.declared.table.Row.{Row}
+use Rattle.row.specs.Work.{cleared}
 use Rattle.row.specs.Row.{rowsBytes, rowIn, pour, width}
 use Rattle.row.proofs.PourLaws.{pour-all, length-pour}
 use Rattle.ledger.specs.Plain.{Reading, accepted, plain}
@@ -23,7 +24,7 @@ use Rattle.order.proofs.HalfLaws.{bytes-ordered}
 use Rattle.order.proofs.RunLaws.{placeIn}
 use Rattle.walk.specs.Postings.{dated, postings}
 use Rattle.totals.specs.declared.totals.Answer.{Answer}
-use Rattle.totals.specs.Totals.{totalsOf, Outcome, isMonth, need, settled, decided, answerOf, itemsLeft, workLeft, cleared, Done}
+use Rattle.totals.specs.Totals.{totalsOf, Outcome, isMonth, need, settled, decided, answerOf, itemsLeft, workLeft, Done}
 use Rattle.totals.specs.steps.Listing.{itemRowIn, placed, itemsPut}
 use Rattle.totals.specs.steps.Months.{Accepted, rowsOf, monthPostings, AllHeld, listedMonth}
 use Rattle.totals.proofs.JoinLaws.{work-settled, found-answer, found-left}

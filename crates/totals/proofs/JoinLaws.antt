@@ -8,6 +8,7 @@ use mathlib.Core.List.{List, [], _∷_, _++_, map, map-map, append-nil}
 use lib.Dec.{leb}
 use lib.ListN.{length, drop, length-map}
 use Rattle.row.specs.declared.table.Row.{Row}
+use Rattle.row.specs.Work.{cleared}
 use Rattle.row.specs.Row.{rowBytes, rowsBytes, rowIn}
 use Rattle.row.specs.steps.Holding.{Held}
 use Rattle.row.proofs.PourLaws.{length-rowBytes}
@@ -20,7 +21,7 @@ use Rattle.order.proofs.RecordLaws.{Wide, length-joined, records-joined}
 use Rattle.order.proofs.HalfLaws.{records-sorted}
 use Rattle.order.proofs.RunLaws.{placeIn}
 use Rattle.order.proofs.SaidLaws.{onFirst, items-map, counted-map}
-use Rattle.totals.specs.Totals.{itemRow, Outcome, settled, answerOf, itemsLeft, cleared, workLeft}
+use Rattle.totals.specs.Totals.{itemRow, Outcome, settled, answerOf, itemsLeft, workLeft}
 use Rattle.totals.specs.steps.Listing.{headRow, itemRowIn, placed, itemsPut}
 use Rattle.totals.specs.steps.Months.{AllHeld}
 use Rattle.totals.specs.declared.totals.Answer.{Answer}

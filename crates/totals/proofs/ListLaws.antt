@@ -1,26 +1,13 @@
--- Laws of the listing: what the items' number tells, and that the front of a working space becomes zeros.
+-- Laws of the listing: what the items' number tells.
 use Prim.Native.Nat.{ℕ, suc, _+_, _*_, _/_, _≤_, _<_}
 use native.Mathlib.Omega.{arith}
-use mathlib.Core.Path.{_≡_, refl, sym, ap, _∙_}
+use mathlib.Core.Path.{_≡_, sym, ap, _∙_}
 use mathlib.Core.Bool.{Bool, true, false, cond, not}
-use mathlib.Core.List.{List, [], _∷_, _++_, map, append-assoc}
+use mathlib.Core.List.{List, [], _∷_, _++_, map}
 use mir.Syntax.{w64}
 use mir.Val.{Fits}
 use borrow.Author.Tests.{le-leb, lt-leb}
-use lib.ListN.{
-  length,
-  take,
-  drop,
-  set,
-  replicate,
-  replicate-append-replicate,
-  length-replicate,
-  length-append,
-  length-drop,
-  length-map,
-  length-set,
-}
-use lib.Seq.{set-split, take-at, drop-at, drop-drop}
+use lib.ListN.{length, drop, length-map}
 use Rattle.row.specs.Row.{rowsBytes, pour}
 use Rattle.row.proofs.PourLaws.{pour-all}
 use Rattle.order.specs.Order.{saidIn, by}
@@ -29,7 +16,6 @@ use Rattle.order.specs.Groups.{those, alike, heads, Item, itemOf, listed, count
 use Rattle.order.specs.declared.runs.Counted.{Counted}
 use Rattle.order.proofs.RecordLaws.{length-records}
 use Rattle.order.proofs.RunLaws.{placeIn}
-use Rattle.totals.specs.Totals.{cleared}
 use Rattle.totals.specs.steps.Listing.{itemRowIn, placed, itemsPut}
 use Rattle.totals.specs.declared.totals.Answer.{Answer}
 use Rattle.totals.proofs.JoinLaws.{counted-length}
@@ -104,30 +90,3 @@ module _ (s t u : List ℕ) (c : Counted) (e : c ≡ counted placeIn 0 (listed (
         q ∙ p ∙ rw (← e, f, le-leb (k * 32) (length u) (omega arith))
 
 pub ruleset list-laws = (list-large, list-large-left, list-small, list-full, list-full-left, list-items, list-put)
-
--- ---- the working space: its first i bytes are zeros
-
-module _ (w₀ w : List ℕ) (i n : ℕ) (v : w ≡ cleared i w₀) where
-  pub clear-byte : i < n → n ≤ length w₀ → set w i 0 ≡ cleared (i + 1) w₀
-  unfolding cleared
-  clear-byte h l =
-      let z : List ℕ = replicate i 0 in
-      let lw : i < length w = rw (v, length-append, length-replicate, length-drop) (omega arith) in
-      let a : take i w ≡ z = rw v (take-at z (drop i w₀) i (length-replicate {A = ℕ} i 0)) in
-      let b : drop (suc i) w ≡ drop (i + 1) w₀ =
-      ap (λ (k : ℕ). drop k w) {x = suc i} {y = i + 1} (omega arith)
-      ∙ sym (drop-drop 1 i w)
-      ∙ rw (v, drop-at z (drop i w₀) i (length-replicate {A = ℕ} i 0)) (drop-drop 1 i w₀) in
-      rw (set-split w i 0 lw, a, b, ← replicate-append-replicate {A = ℕ} i 1 0) (sym (append-assoc z (0 ∷ []) (drop (i + 1) w₀)))
-
-  pub clear-end : i ≤ n → n ≤ i → w ≡ cleared n w₀
-  clear-end h l = let e : n ≡ i = omega arith in rw e v
-
-pub clear-start : (w : List ℕ) → w ≡ cleared 0 w
-unfolding cleared
-clear-start w = refl
-
-pub clear-length : (w₀ w : List ℕ) (a : ℕ) → length w ≡ length w₀ → length (set w a 0) ≡ length w₀
-clear-length w₀ w a e = rw length-set e
-
-pub ruleset clear-laws = (clear-start, clear-byte, clear-end, clear-length)

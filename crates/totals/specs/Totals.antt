@@ -6,10 +6,11 @@ use mathlib.Core.Path.{_≡_}
 use mathlib.Core.Bool.{Bool, cond, _&&_}
 use mathlib.Core.List.{List, _++_, map}
 use lib.Dec.{leb}
-use lib.ListN.{length, drop, replicate}
+use lib.ListN.{length, drop}
 use Rattle.decimal.specs.Exact.{twosOf}
 use Rattle.row.specs.declared.table.Row.{Row}
 use Rattle.row.specs.Row.{rowsBytes, width}
+use Rattle.row.specs.Work.{cleared}
 use Rattle.row.specs.Details.{millionths}
 use Rattle.ledger.specs.Plain.{Reading, accepted, denied}
 use Rattle.order.specs.Order.{said}
@@ -73,9 +74,6 @@ itemsLeft (late used n p c) t = t
 itemsLeft (gives used rs) t = rowsBytes rs ++ drop (length rs * width) t
 
 -- what was used of a working space is zeros
-unfoldable pub cleared : ℕ → List ℕ → List ℕ
-cleared used w = replicate used 0 ++ drop used w
-
 unfoldable pub workLeft : Outcome → List ℕ → List ℕ
 workLeft (early n p c) w = w
 workLeft (late used n p c) w = cleared used w

@@ -8,6 +8,7 @@ use order::runs;
 use order::runs::Counted;
 use order::sort;
 use row::table::WIDTH;
+use row::work;
 ghost use mathlib.Core.Path.{_≡_};
 ghost use mathlib.Core.List.{map};
 ghost use mathlib.Core.Bool.{true};
@@ -18,7 +19,7 @@ ghost use Rattle.ledger.specs.Plain.{plain};
 ghost use Rattle.order.specs.Sorted.{Ordered, recordsOf};
 ghost use Rattle.order.specs.Order.{saidIn, by};
 ghost use Rattle.order.specs.Groups.{listed, counted};
-ghost use Rattle.totals.specs.Totals.{isMonth, decided, answerOf, itemsLeft, cleared, Done};
+ghost use Rattle.totals.specs.Totals.{isMonth, decided, answerOf, itemsLeft, Done};
 ghost use Rattle.totals.specs.steps.Listing.{itemRowIn, placed, itemsPut};
 ghost use Rattle.totals.specs.steps.Months.{Accepted, monthPostings, listedMonth};
 
@@ -38,18 +39,6 @@ fn refusal(number: usize, place: usize, count: usize) -> Answer
         number,
         place,
         count,
-    }
-}
-
-// The first n bytes become zeros.
-fn clear(w: &mut [u8], n: usize)
-    requires { ⌜ n ≤ length (now w) ⌝ }
-    ensures { λ _. ⌜ now (w .exit) ≡ cleared n (now (w .entry)) ⌝ }
-{
-    let mut i = 0;
-    while i < n {
-        w[i] = 0;
-        i += 1;
     }
 }
 
@@ -126,8 +115,8 @@ fn month_totals(
         &mut work[0..used],
         &mut spare[0..used],
     );
-    clear(work, used);
-    clear(spare, used);
+    work::clear(work, used);
+    work::clear(spare, used);
     r
 }
 

@@ -17,7 +17,7 @@ use Rattle.text.proofs.TestLaws.{absurd-bool, and-left}
 use Rattle.text.proofs.Joins.{Reach}
 use Rattle.amount.specs.declared.detail.Detail.{Detail}
 use Rattle.amount.specs.Details.{Rows, span}
-use Rattle.amount.proofs.RowCounts.{flagKind, anyKinds, unflagged, Placed, placed-wide, Fits, and-fits}
+use Rattle.amount.proofs.RowCounts.{flagKind, anyKinds, unflagged, span-filled, Placed, placed-wide, Fits, and-fits}
 use Rattle.posting.specs.Postings.{isFlag, flag, body}
 use Rattle.posting.proofs.PostingFew.{body-fits}
 use Rattle.transaction.specs.Transaction.{opening, transaction}
@@ -95,5 +95,5 @@ opened-placed s g n ds o = rw (o .rows) (go (isFlag (getD s g 0)))
     others = placed-wide unflagged anyKinds s (g + 1) n g n (o .others) (omega arith) (omega arith) (omega arith) (o .placed)
 
     go : (t : Bool) → Placed anyKinds s g n (cond t (span flagKind g (g + 1) ∷ []) [] ++ o .others)
-    go true = ((omega arith, omega (arith, o .placed .1), omega (arith, o .placed .1), others .0), omega (arith, o .placed .1))
+    go true = ((omega (arith, o .placed .1), span-filled, others .0), omega (arith, o .placed .1))
     go false = others

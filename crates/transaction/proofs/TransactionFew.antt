@@ -7,7 +7,7 @@ use Rattle.text.specs.Bytes.{bytes, isBlank}
 use Rattle.text.specs.Run.{blanks}
 use Rattle.text.proofs.Joins.{reach-from}
 use Rattle.text.proofs.TokenEnds.{run-reach, string-reach, tag-reach, link-reach, word-reach}
-use Rattle.amount.proofs.RowCounts.{headKinds, partKinds, FitsFrom, to-fits, else-fits, many-fits, bare-fits, bare-and, word-bare, string-and, tag-and, link-and}
+use Rattle.amount.proofs.RowCounts.{headKinds, partKinds, span-filled, FitsFrom, to-fits, else-fits, row-fits, many-fits, bare-fits, bare-and, word-bare, string-and, tag-and, link-and}
 use Rattle.posting.specs.Postings.{flag}
 use Rattle.posting.proofs.PostingEnds.{flag-reach}
 use Rattle.posting.proofs.PostingFew.{gap-and, flag-bare}
@@ -22,7 +22,7 @@ module _ (s : List ℕ) where
   unfolding opening
   opening-fits at h =
       else-fits at _ _
-      (bare-and N (at + 1) at (flag s at) _ (flag-reach s at) (flag-bare s at) (λ e p q. to-fits at e _ (omega arith)))
+      (bare-and N (at + 1) at (flag s at) _ (flag-reach s at) (flag-bare s at) (λ e p q. row-fits at e _ span-filled (omega arith)))
       (bare-fits N at _ (reach-from N (at + length (bytes "txn")) at _ (omega arith) (word-reach s at h (bytes "txn"))) (word-bare s at (bytes "txn")))
 
   pub texts-fits : (at : ℕ) → at ≤ N → FitsFrom partKinds s at (texts s at)
@@ -32,8 +32,9 @@ module _ (s : List ℕ) where
       string-and s N at a _
       (λ m₁ e p₂ q₂.
       else-fits at _ _
-      (gap-and s at e _ q₂ (λ b p₃ q₃. string-and s N at b _ (λ m₂ f p₄ q₄. to-fits at f _ (omega arith)) (string-reach s b)))
-      (to-fits at e _ (omega arith)))
+      (gap-and s at e _ q₂ (λ b p₃ q₃. string-and s N at b _ (λ m₂ f p₄ q₄.
+      to-fits at f _ ((omega arith, span-filled, (omega arith, span-filled, omega arith)), omega arith)) (string-reach s b)))
+      (row-fits at e _ span-filled (omega arith)))
       (string-reach s a))
 
   pub mark-fits : (at : ℕ) → at ≤ N → FitsFrom partKinds s at (mark s at)
@@ -42,8 +43,8 @@ module _ (s : List ℕ) where
       let b = blanks s at in
       let r = run-reach isBlank s at h in
       else-fits at _ _
-      (tag-and s N at b _ (λ m e p q. to-fits at e _ (omega arith)) (tag-reach s b))
-      (link-and s N at b _ (λ m e p q. to-fits at e _ (omega arith)) (link-reach s b))
+      (tag-and s N at b _ (λ m e p q. row-fits at e _ span-filled (omega arith)) (tag-reach s b))
+      (link-and s N at b _ (λ m e p q. row-fits at e _ span-filled (omega arith)) (link-reach s b))
 
   pub marks-fits : (at : ℕ) → at ≤ N → FitsFrom partKinds s at (marks s at)
   unfolding marks

@@ -75,7 +75,7 @@ module _ (wanted : ℕ → Bool) where
       → postingsFrom wanted false (map (laid base) ds ++ ys) ≡ postingsFrom wanted false ys
   laid-out base s k j [] ys r = refl
   laid-out base s k j (x ∷ ds) ys r =
-      out-row (laid base x) (map (laid base) ds ++ ys) (omega (arith, laid-kind base x, r .2)) ∙ laid-out base s (x .start) j ds ys (r .3)
+      out-row (laid base x) (map (laid base) ds ++ ys) (omega (arith, laid-kind base x, r .0)) ∙ laid-out base s (x .start) j ds ys (r .2)
 
   -- ---- an entry's own row, and rows that are none or start with one
 

@@ -1,24 +1,19 @@
 -- What stands in the table of two rows after a posting was read is the posting of its rows, and is held by its bytes.
-use Prim.Native.Nat.{ℕ, zero, suc, _+_, _-_, _≤_, _<_}
+use Prim.Native.Nat.{ℕ, suc, _+_, _-_, _≤_, _<_}
 use native.Mathlib.Omega.{arith}
 use mathlib.Core.Path.{_≡_, refl, sym, _∙_, ap}
 use mathlib.Core.Bool.{Bool, true, false, cond}
 use mathlib.Core.List.{List, [], _∷_, _++_, map}
 use borrow.Author.Tests.{lt-ltb, le-ltb, eq-eqb, ne-eqb, eqb-true}
 use lib.Dec.{eqb}
-use lib.IntN.{pos, negℤ}
 use lib.ListN.{length, take, drop, length-drop}
 use lib.Seq.{drop-at}
-use Rattle.decimal.specs.Exact.{limit, twosOf}
-use Rattle.decimal.specs.declared.Value.{Value}
-use Rattle.decimal.specs.declared.Value.the-variants.{Known, Refused}
 use Rattle.amount.specs.declared.detail.Detail.{Detail}
-use Rattle.amount.proofs.ValueSizes.{Small}
 use Rattle.row.specs.declared.table.Row.{Row}
 use Rattle.row.specs.Row.{rowOf, rowBytes, rowIn, width, pour, pourAt}
-use Rattle.row.specs.Details.{spanned, millionths, laid}
+use Rattle.row.specs.Details.{spanned, laid}
 use Rattle.row.proofs.PourLaws.{pour-fits, pourAt-zero, length-rowBytes}
-use Rattle.row.proofs.ReadBack.{wrapped, row-in, four-back, eight-back}
+use Rattle.row.proofs.ReadBack.{wrapped, row-in, four-back, eight-back, bits-low}
 use Rattle.row.specs.steps.Holding.{Held}
 use Rattle.ledger.proofs.ScanLaws.{rest-of}
 use Rattle.posting.proofs.StepRows.{Amounted, Post, Front}
@@ -64,19 +59,6 @@ posting-bare : (r : Row) (ys : List Row) → Ahead ys → posting r ys ≡ unsta
 unfolding posting
 posting-bare r [] h = refl
 posting-bare r (x ∷ ys) h = rw (ne-eqb (x .kind) 26 h)
-
--- ---- a value within the limit is held by eight bytes
-
-twos-low : (m : Bool) (n : ℕ) → n ≤ limit → twosOf (cond m (negℤ (pos n)) (pos n)) < 18446744073709551616
-unfolding twosOf
-twos-low true zero h = omega arith
-twos-low true (suc n) h = omega arith
-twos-low false n h = omega arith
-
-bits-low : (v : Value) → Small v → twosOf (millionths v) < 18446744073709551616
-unfolding millionths
-bits-low (Known d) h = twos-low (d .minus) (d .size) (h .holds)
-bits-low (Refused n) h = twos-low false 0 (omega arith)
 
 either-low : (b : Bool) (from p n : ℕ) → from + n ≤ 16777216 → p ≤ n → cond b (from + p) p < 4294967296
 either-low true from p n h l = omega arith

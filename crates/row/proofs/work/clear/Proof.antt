@@ -1,11 +1,11 @@
 use lib.ListN.{length}
 use mathlib.Core.Path.{_≡_}
 use Prim.Native.Nat.{_-_, _≤_}
-use Rattle.totals.specs.Totals.{cleared}
-use Rattle.totals.proofs.ListLaws.{clear-laws}
+use Rattle.row.specs.Work.{cleared}
+use Rattle.row.proofs.WorkLaws.{clear-laws}
 use borrow.Author.Needs.{needs}
-use Rattle.totals.proofs.totals.clear.Statement.{statement}
-use Rattle.totals.proofs.totals.clear.Tie as tie
+use Rattle.row.proofs.work.clear.Statement.{statement}
+use Rattle.row.proofs.work.clear.Tie as tie
 
 abbrev Inv-loop : tie.InvT-loop
 Inv-loop w₀ n i₀ w i = (w ≡ cleared i w₀) × (i ≤ n) × (length w ≡ length w₀)
