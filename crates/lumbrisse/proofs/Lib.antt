@@ -2,3 +2,4 @@ pub mod NumberLaws
 pub mod Unique
 pub mod PacketLaws
 pub mod EditLaws
+pub mod AfreshLaws

@@ -7,6 +7,7 @@ use Rattle.decimal.specs.Exact.{wholeOf, twosOf}
 use Rattle.decimal.specs.declared.Decimal.{Decimal}
 use Rattle.ledger.specs.declared.read.Answer.{Answer}
 use Rattle.totals.specs.declared.totals.Answer as totals
+use Rattle.rewrite.specs.declared.write.Answer as rewrite
 use Rattle.access.specs.Spans.{goodSpan}
 use Rattle.access.specs.declared.written.Written.{Written}
 use Rattle.access.specs.declared.single.Evaluated as single
@@ -17,7 +18,7 @@ use Rattle.lumbrisse.specs.declared.reply.Reply.{Reply}
 use Rattle.lumbrisse.specs.declared.reply.Evaluated.{Evaluated}
 use Rattle.lumbrisse.specs.declared.reply.Handed.{Handed}
 use Rattle.lumbrisse.specs.declared.reply.Part.{Part}
-use Rattle.lumbrisse.specs.Numbers.{replied, replyOf, totalsReply, writtenReply, forceReply, evaluatedOf, partOf, handedBy, handedOf}
+use Rattle.lumbrisse.specs.Numbers.{replied, replyOf, totalsReply, rewriteReply, writtenReply, forceReply, evaluatedOf, partOf, handedBy, handedOf}
 
 module _ (r : Reply) where
   module _ (a : Answer) where
@@ -37,6 +38,15 @@ module _ (r : Reply) where
     pub no-items-reply : (n p k : ℕ) → a ≡ totals.Answer.Refusal n p k → r ≡ replied n p k → r ≡ totalsReply a
     unfolding totalsReply
     no-items-reply n p k e w = rw e w
+
+  module _ (a : rewrite.Answer) where
+    pub output-reply : (n : ℕ) → a ≡ rewrite.Answer.Bytes n → r ≡ replied 0 0 n → r ≡ rewriteReply a
+    unfolding rewriteReply
+    output-reply n e w = rw e w
+
+    pub no-output-reply : (n p k : ℕ) → a ≡ rewrite.Answer.Refusal n p k → r ≡ replied n p k → r ≡ rewriteReply a
+    unfolding rewriteReply
+    no-output-reply n p k e w = rw e w
 
   module _ (a : Written) where
     pub bytes-reply : (n : ℕ) → a ≡ Written.Bytes n → r ≡ replied 0 0 n → r ≡ writtenReply a
@@ -88,7 +98,7 @@ module _ (at : ℕ) (x : Step) (r : Handed) where
 
 pub ruleset handed-laws = (entry-handed, detail-handed, end-handed, refusal-handed)
 
-pub ruleset number-laws = (rows-reply, refusal-reply, items-reply, no-items-reply, bytes-reply, need-reply, yes-reply, not-reply, bad-reply, read-numbers, refused-numbers)
+pub ruleset number-laws = (rows-reply, refusal-reply, items-reply, no-items-reply, output-reply, no-output-reply, bytes-reply, need-reply, yes-reply, not-reply, bad-reply, read-numbers, refused-numbers)
 
 module _ (s : List ℕ) (a e : ℕ) (q : Bool) (v : q ≡ goodSpan s a e) where
   pub good-part : q ≡ true → record { start = a; length = e - a } ≡ partOf s a e

@@ -15,12 +15,13 @@ use Rattle.access.specs.Tables.{inForce}
 use Rattle.bus.specs.Writing.{written, writtenLeft}
 use Rattle.bus.specs.Reading.{rowLeft, textLeft, stepAt}
 use Rattle.totals.specs.Totals.{decided, answerOf, itemsLeft, workLeft}
+use Rattle.rewrite.specs.Rewriting as rewrite
 use Rattle.lumbrisse.specs.declared.reply.Reply.{Reply}
 use Rattle.lumbrisse.specs.declared.reply.Evaluated.{Evaluated}
 use Rattle.lumbrisse.specs.declared.reply.Handed.{Handed}
 use Rattle.lumbrisse.specs.declared.reply.Part.{Part}
-use Rattle.lumbrisse.specs.Numbers.{replyOf, totalsReply, writtenReply, forceReply, evaluatedOf, partOf, handedOf}
-use Rattle.lumbrisse.specs.Promises.{TablePromise, TotalsPromise, ContentPromise, ExpressionPromise, TagPromise, SpanPromise, PacketPromise, StepPromise}
+use Rattle.lumbrisse.specs.Numbers.{replyOf, totalsReply, rewriteReply, writtenReply, forceReply, evaluatedOf, partOf, handedOf}
+use Rattle.lumbrisse.specs.Promises.{TablePromise, TotalsPromise, WritePromise, ContentPromise, ExpressionPromise, TagPromise, SpanPromise, PacketPromise, StepPromise}
 
 -- both are what is defined
 pub same-defined : {A : Type 0} {x r q : A} → r ≡ x → q ≡ x → r ≡ q
@@ -58,6 +59,13 @@ step-unique a b = (same-defined (a .answer) (b .answer), (same-defined (a .row) 
 
 pub table-total : (x : Reading) (t : List ℕ) → (r : Reply) × ((u : List ℕ) × TablePromise x t r u)
 table-total x t = (replyOf (answer x (length t / width)), (left x t, record { reply = refl; rows = refl }))
+
+pub write-unique : {s o w o₁ w₁ o₂ w₂ : List ℕ} {r q : Reply} → WritePromise s o w r o₁ w₁ → WritePromise s o w q o₂ w₂ → (r ≡ q) × ((o₁ ≡ o₂) × (w₁ ≡ w₂))
+write-unique a b = (same-defined (a .reply) (b .reply), (same-defined (a .output) (b .output), same-defined (a .work) (b .work)))
+
+pub write-total : (s o w : List ℕ) → (r : Reply) × ((o′ : List ℕ) × ((w′ : List ℕ) × WritePromise s o w r o′ w′))
+write-total s o w =
+    (rewriteReply (rewrite.answered s (length o) (length w) (plain s)), (rewrite.outputLeft s (length w) o (plain s), (rewrite.workLeft w (plain s), record { reply = refl; output = refl; work = refl })))
 
 pub totals-total : (s : List ℕ) (y m : ℕ) (t w u : List ℕ)
     → (r : Reply) × ((t′ : List ℕ) × ((w′ : List ℕ) × ((u′ : List ℕ) × TotalsPromise s y m t w u r t′ w′ u′)))

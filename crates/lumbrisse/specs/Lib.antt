@@ -6,3 +6,4 @@ pub mod Asked
 pub mod Edges
 pub mod Roundings
 pub mod Easy
+pub mod Afresh

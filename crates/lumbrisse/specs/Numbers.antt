@@ -5,6 +5,7 @@ use mathlib.Core.List.{List}
 use Rattle.decimal.specs.Exact.{wholeOf, twosOf}
 use Rattle.ledger.specs.declared.read.Answer.{Answer}
 use Rattle.totals.specs.declared.totals.Answer as totals
+use Rattle.rewrite.specs.declared.write.Answer as rewrite
 use Rattle.access.specs.Spans.{goodSpan}
 use Rattle.access.specs.declared.written.Written.{Written}
 use Rattle.access.specs.declared.single.Evaluated as single
@@ -28,6 +29,11 @@ replyOf (Answer.Refusal n p c) = replied n p c
 unfoldable pub totalsReply : totals.Answer → Reply
 totalsReply (totals.Answer.Items n) = replied 0 0 n
 totalsReply (totals.Answer.Refusal n p c) = replied n p c
+
+-- a ledger written afresh: how many bytes, or number, place and count of a refusal
+unfoldable pub rewriteReply : rewrite.Answer → Reply
+rewriteReply (rewrite.Answer.Bytes n) = replied 0 0 n
+rewriteReply (rewrite.Answer.Refusal n p c) = replied n p c
 
 -- bytes written, of string content or of a packet: how many, or number and need; the place of 9, 10 and 18 is 0
 unfoldable pub writtenReply : Written → Reply

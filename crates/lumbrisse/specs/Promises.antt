@@ -14,11 +14,12 @@ use Rattle.access.specs.Spans.{spanText}
 use Rattle.bus.specs.Writing.{written, writtenLeft}
 use Rattle.bus.specs.Reading.{rowLeft, textLeft, stepAt}
 use Rattle.totals.specs.Totals.{decided, answerOf, itemsLeft, workLeft}
+use Rattle.rewrite.specs.Rewriting as rewrite
 use Rattle.lumbrisse.specs.declared.reply.Reply.{Reply}
 use Rattle.lumbrisse.specs.declared.reply.Evaluated.{Evaluated}
 use Rattle.lumbrisse.specs.declared.reply.Handed.{Handed}
 use Rattle.lumbrisse.specs.declared.reply.Part.{Part}
-use Rattle.lumbrisse.specs.Numbers.{replyOf, totalsReply, writtenReply, forceReply, evaluatedOf, partOf, handedOf}
+use Rattle.lumbrisse.specs.Numbers.{replyOf, totalsReply, rewriteReply, writtenReply, forceReply, evaluatedOf, partOf, handedOf}
 
 -- a reading of a ledger into a table t: plain or recovering, in either profile, or that of an edited ledger
 pub record TablePromise (reading : Reading) (t : List ℕ) (r : Reply) (u : List ℕ) : Type 0 where
@@ -31,6 +32,12 @@ pub record TotalsPromise (s : List ℕ) (year month : ℕ) (t w u : List ℕ) (r
   pub items : t′ ≡ itemsLeft (decided s year month (length t) (length w) (length u) (plain s)) t
   pub work : w′ ≡ workLeft (decided s year month (length t) (length w) (length u) (plain s)) w
   pub spare : u′ ≡ workLeft (decided s year month (length t) (length w) (length u) (plain s)) u
+
+-- a ledger s written afresh into a buffer o, with the working space w
+pub record WritePromise (s o w : List ℕ) (r : Reply) (o′ w′ : List ℕ) : Type 0 where
+  pub reply : r ≡ rewriteReply (rewrite.answered s (length o) (length w) (plain s))
+  pub output : o′ ≡ rewrite.outputLeft s (length w) o (plain s)
+  pub work : w′ ≡ rewrite.workLeft w (plain s)
 
 -- content c into a buffer t
 pub record ContentPromise (c t : List ℕ) (r : Reply) (u : List ℕ) : Type 0 where

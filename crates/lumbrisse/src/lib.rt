@@ -19,7 +19,7 @@ ghost use Rattle.ledger.specs.Plain.{plain};
 ghost use Rattle.ledger.specs.Strict.{strict};
 ghost use Rattle.recovery.specs.Recovering.{recovered, recoveredStrictly};
 ghost use Rattle.edit.specs.Edits.{editing};
-ghost use Rattle.lumbrisse.specs.Promises.{TablePromise, TotalsPromise, ContentPromise, ExpressionPromise, TagPromise, SpanPromise, PacketPromise, StepPromise};
+ghost use Rattle.lumbrisse.specs.Promises.{TablePromise, TotalsPromise, WritePromise, ContentPromise, ExpressionPromise, TagPromise, SpanPromise, PacketPromise, StepPromise};
 
 // Plain reading: the rows' count, or a refusal.
 #[no_mangle]
@@ -90,6 +90,15 @@ pub extern "C" fn lumbrisse_totals(
 {
     let a = totals::totals::totals(ledger, year, month, items, work, spare);
     reply::totals_reply(a)
+}
+
+// A ledger written afresh (M-103): how many bytes, or a refusal. `work` is working space: 32 bytes for each row.
+#[no_mangle]
+pub extern "C" fn lumbrisse_write(ledger: &[u8], output: &mut [u8], work: &mut [u8]) -> Reply
+    ensures { λ r. ⌜ WritePromise (now (ledger .entry)) (now (output .entry)) (now (work .entry)) r (now (output .exit)) (now (work .exit)) ⌝ }
+{
+    let a = rewrite::write::write(ledger, output, work);
+    reply::rewrite_reply(a)
 }
 
 // The expression at a text's start: its value and where it stops, or a refusal. Products and quotients round, as in

@@ -5,7 +5,7 @@ use access::written::Written;
 use bus::packet::Step;
 use ledger::read::Answer;
 ghost use mathlib.Core.Path.{_≡_};
-ghost use Rattle.lumbrisse.specs.Numbers.{replied, replyOf, totalsReply, writtenReply, forceReply, evaluatedOf, handedBy, handedOf};
+ghost use Rattle.lumbrisse.specs.Numbers.{replied, replyOf, totalsReply, rewriteReply, writtenReply, forceReply, evaluatedOf, handedBy, handedOf};
 
 // Number 0: accepted. What an answer has not is 0.
 #[repr(C)]
@@ -67,6 +67,19 @@ pub fn totals_reply(a: totals::totals::Answer) -> Reply
             place,
             count: need,
         } => replied(number, place, need),
+    }
+}
+
+pub fn rewrite_reply(a: rewrite::write::Answer) -> Reply
+    ensures { λ r. ⌜ r ≡ rewriteReply a ⌝ }
+{
+    match a {
+        rewrite::write::Answer::Bytes(n) => replied(0, 0, n),
+        rewrite::write::Answer::Refusal {
+            number,
+            place,
+            count: bytes,
+        } => replied(number, place, bytes),
     }
 }
 

@@ -4,5 +4,7 @@ pub mod ReplyLaws
 pub mod VerdictLaws
 pub mod ChangeLaws
 pub mod DisplayLaws
+pub mod SpaceLaws
 pub mod MonthLaws
+pub mod AfreshLaws
 pub mod StepLaws

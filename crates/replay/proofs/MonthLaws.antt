@@ -1,15 +1,13 @@
 -- Totals, whose working spaces stand one behind the other in a case: each is lent in a buffer of its own.
-use Prim.Native.Nat.{ℕ, _+_, _-_, _≤_, _<_}
+use Prim.Native.Nat.{ℕ, _-_, _≤_, _<_}
 use native.Mathlib.Omega.{arith}
 use mathlib.Core.Path.{_≡_, sym, _∙_, ap}
-use mathlib.Core.Bool.{Bool, true, false, _&&_}
+use mathlib.Core.Bool.{Bool, _&&_}
 use mathlib.Core.List.{List, _++_}
-use borrow.Author.Tests.{le-leb, lt-leb, ne-eqb}
+use borrow.Author.Tests.{le-leb, lt-leb}
 use borrow.Rule.Slice.PartMut.{putMid}
-use lib.ListN.{length, getD, take, drop, length-drop, drop-of-length-le}
-use lib.Seq.{take-at, take-all, length-take-le}
-use Rattle.text.proofs.Steps.{drop-step}
-use Rattle.access.specs.Tables.{same}
+use lib.ListN.{length, take, drop, length-drop}
+use lib.Seq.{take-all, length-take-le}
 use Rattle.ledger.specs.Plain.{plain}
 use Rattle.ledger.proofs.ScanLaws.{rest-of}
 use Rattle.totals.specs.Totals as totals
@@ -17,44 +15,8 @@ use Rattle.lumbrisse.specs.Promises.{TotalsPromise}
 use Rattle.lumbrisse.specs.declared.reply as box
 use Rattle.replay.specs.declared.case.Case.{Case}
 use Rattle.replay.specs.declared.call.Outcome.{Outcome}
-use Rattle.replay.specs.Replies.{zeros, wiped, bothWiped, totalsOf, ofTotals, totalled, totalledLeft}
-
--- ---- zeros: z is what is left to be seen from i on
-
-module _ (z : Bool) (s : List ℕ) (i : ℕ) (v : z ≡ zeros (drop i s)) where
-  pub zeros-on : i < length s → getD s i 0 ≡ 0 → z ≡ zeros (drop (i + 1) s)
-  unfolding zeros
-  zeros-on h e = v ∙ rw (drop-step s i h, e)
-
-  pub zeros-stop : i < length s → (getD s i 0 ≡ 0 → ⊥) → false ≡ z
-  unfolding zeros
-  zeros-stop h n = sym (v ∙ rw (drop-step s i h, ne-eqb (getD s i 0) 0 n))
-
-  pub zeros-end : length s ≤ i → true ≡ z
-  unfolding zeros
-  zeros-end h = sym (v ∙ rw (drop-of-length-le s {i = i} h))
-
-pub ruleset zeros-laws = (zeros-on, zeros-stop, zeros-end)
-
--- ---- a working space, x before and y after the call
-
-module _ (x y : List ℕ) (d : ℕ) where
-  pub wiped-short : length x < d → false ≡ wiped d x y
-  wiped-short h = rw (lt-leb d (length x) h)
-
-  module _ (h : d ≤ length x) where
-    pub wiped-cut : length y < d → false ≡ wiped d x y
-    wiped-cut k = rw (le-leb d (length x) h, lt-leb d (length y) k)
-
-    module _ (k : d ≤ length y) (z : Bool) (ez : z ≡ zeros (take (d - 0) (drop 0 y))) where
-      zero-is : zeros (take d y) ≡ z
-      zero-is = let n : d - 0 ≡ d = omega arith in sym (ez ∙ ap (λ (i : ℕ). zeros (take i y)) n)
-
-      pub wiped-not : z ≡ false → false ≡ wiped d x y
-      wiped-not e = rw (le-leb d (length x) h, le-leb d (length y) k, zero-is, e)
-
-      pub wiped-same : z ≡ true → (q : Bool) → q ≡ same (take (length y - d) (drop d y)) (take (length x - d) (drop d x)) → q ≡ wiped d x y
-      wiped-same e q eq = eq ∙ rw (rest-of y d, rest-of x d, le-leb d (length x) h, le-leb d (length y) k, zero-is, e)
+use Rattle.replay.specs.Replies.{wiped, bothWiped, totalsOf, ofSpaced, totalled, totalledLeft}
+use Rattle.replay.proofs.SpaceLaws.{front-lent, front-back}
 
 -- both, by parts of the buffers as they are lent on
 pub both-wiped : (u y z : List ℕ) (n d m : ℕ) → m ≡ length u - n → (p q : Bool)
@@ -65,27 +27,6 @@ both-wiped u y z n d m em p q ep eq =
     rw (ep, eq, k, l, rest-of u n)
 
 pub ruleset kept-parts = (both-wiped)
-
-pub ruleset wiped-laws = (wiped-short, wiped-cut, wiped-not, wiped-same)
-
-module _ (r : box.Reply.Reply) (kept : Bool) where
-  pub reply-kept : kept ≡ true
-      → Outcome.Answered (record { number = r .number; place = r .place; count = r .count; value = 0; tag = 0 }) ≡ Outcome.Answered (ofTotals r kept)
-  reply-kept e = rw e
-
-  pub reply-lost : kept ≡ false
-      → Outcome.Answered (record { number = r .number; place = r .place; count = r .count; value = 0; tag = 1 }) ≡ Outcome.Answered (ofTotals r kept)
-  reply-lost e = rw e
-
-pub ruleset kept-laws = (reply-kept, reply-lost)
-
--- ---- a buffer x with the part p of n bytes in its front: that part is lent, and comes back as v
-
-front-lent : (p x w : List ℕ) (n : ℕ) → length p ≡ n → w ≡ p ++ drop n x → take (n - 0) (drop 0 w) ≡ p
-front-lent p x w n l e = let k : n - 0 ≡ n = omega arith in rw (k, e) (take-at p (drop n x) n l)
-
-front-back : (w v : List ℕ) (n : ℕ) → length v ≡ n → take n (putMid 0 (n - 0) w v) ≡ v
-front-back w v n l = let k : n - 0 ≡ n = omega arith in rw k (take-at v (drop n w) n l)
 
 module _ (c : Case) (s u t : List ℕ) where
   pub totals-unknown : length u < c .c → Outcome.Unknown ≡ totalled c s u t
@@ -124,7 +65,7 @@ module _ (c : Case) (s u t : List ℕ) where
 
       pub totals-told : length v ≡ length (take (c .c - 0) (drop 0 a)) → length w ≡ length (take (m - 0) (drop 0 b)) → (kept : Bool)
           → kept ≡ bothWiped (c .c) (c .d) u (putMid 0 (c .c - 0) a v) (putMid 0 (m - 0) b w)
-          → (o : Outcome) → o ≡ Outcome.Answered (ofTotals r kept) → o ≡ totalled c s u t
+          → (o : Outcome) → o ≡ Outcome.Answered (ofSpaced r kept) → o ≡ totalled c s u t
       totals-told lv lw kept ek o e =
           let ln : length v ≡ c .c = lv ∙ ap length part-one ∙ length-take-le (c .c) u h in
           let lm : length w ≡ m = lw ∙ ap length part-two ∙ rest-long in

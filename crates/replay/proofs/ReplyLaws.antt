@@ -10,7 +10,7 @@ use Rattle.lumbrisse.specs.Promises.{TablePromise, ContentPromise, ExpressionPr
 use Rattle.lumbrisse.specs.declared.reply as box
 use Rattle.replay.specs.declared.case.Case.{Case}
 use Rattle.replay.specs.declared.call.Outcome.{Outcome}
-use Rattle.replay.specs.Replies.{ofReply, ofEvaluated, ofPart, isReading, readingOf, isRounding, isExact, stepped, steppedLeft, edited, editedLeft, totalled, totalledLeft, outcome, leftBy}
+use Rattle.replay.specs.Replies.{ofReply, ofEvaluated, ofPart, isReading, readingOf, isRounding, isExact, stepped, steppedLeft, edited, editedLeft, totalled, totalledLeft, rewritten, rewrittenLeft, outcome, leftBy}
 
 pub evaluated-told : (e : box.Evaluated.Evaluated) (v : ℕ) → v ≡ e .bits
     → Outcome.Answered (record { number = e .number; place = e .place; count = 0; value = v; tag = 0 }) ≡ Outcome.Answered (ofEvaluated e)
@@ -58,11 +58,15 @@ module _ (c : Case) (s u t : List ℕ) where
   unfolding outcome
   made-edit o e w = rw (w, e)
 
+  pub made-write : (o : Outcome) → c .call ≡ 17 → o ≡ rewritten c s u t → o ≡ outcome c s u t
+  unfolding outcome
+  made-write o e w = rw (w, e)
+
   pub made-step : (o : Outcome) → c .call ≡ 16 → o ≡ stepped (c .a) (c .b) s t → o ≡ outcome c s u t
   unfolding outcome
   made-step o e w = rw (w, e)
 
-  module _ (n1 : c .call ≡ 1 → ⊥) (n2 : c .call ≡ 2 → ⊥) (n7 : c .call ≡ 7 → ⊥) (n8 : c .call ≡ 8 → ⊥) (n4 : c .call ≡ 4 → ⊥) (n10 : c .call ≡ 10 → ⊥) (n14 : c .call ≡ 14 → ⊥) (n15 : c .call ≡ 15 → ⊥) (n16 : c .call ≡ 16 → ⊥) where
+  module _ (n1 : c .call ≡ 1 → ⊥) (n2 : c .call ≡ 2 → ⊥) (n7 : c .call ≡ 7 → ⊥) (n8 : c .call ≡ 8 → ⊥) (n4 : c .call ≡ 4 → ⊥) (n10 : c .call ≡ 10 → ⊥) (n14 : c .call ≡ 14 → ⊥) (n15 : c .call ≡ 15 → ⊥) (n16 : c .call ≡ 16 → ⊥) (n17 : c .call ≡ 17 → ⊥) where
     pub made-unknown : (c .call ≡ 3 → ⊥) → (c .call ≡ 5 → ⊥) → (c .call ≡ 6 → ⊥) → (c .call ≡ 9 → ⊥) → (c .call ≡ 12 → ⊥) → (c .call ≡ 13 → ⊥)
         → Outcome.Unknown ≡ outcome c s u t
     unfolding outcome
@@ -83,6 +87,7 @@ module _ (c : Case) (s u t : List ℕ) where
           ne-eqb (c .call) 14 n14,
           ne-eqb (c .call) 15 n15,
           ne-eqb (c .call) 16 n16,
+          ne-eqb (c .call) 17 n17,
         )
 
 -- ---- the lent buffer: w is what the call left
@@ -108,17 +113,21 @@ module _ (c : Case) (s u t : List ℕ) where
   unfolding leftBy
   left-edit w e p = rw e p
 
+  pub left-write : (w : List ℕ) → c .call ≡ 17 → w ≡ rewrittenLeft s u t → w ≡ leftBy c s u t
+  unfolding leftBy
+  left-write w e p = rw e p
+
   pub left-step : (w : List ℕ) → c .call ≡ 16 → w ≡ steppedLeft (c .a) (c .b) s t → w ≡ leftBy c s u t
   unfolding leftBy
   left-step w e p = rw e p
 
   -- a call that writes nothing, known by its number n
-  pub left-alone : (n : ℕ) → c .call ≡ n → isReading n ≡ false → eqb n 4 ≡ false → eqb n 10 ≡ false → eqb n 14 ≡ false → eqb n 15 ≡ false → eqb n 16 ≡ false → t ≡ leftBy c s u t
+  pub left-alone : (n : ℕ) → c .call ≡ n → isReading n ≡ false → eqb n 4 ≡ false → eqb n 10 ≡ false → eqb n 14 ≡ false → eqb n 15 ≡ false → eqb n 16 ≡ false → eqb n 17 ≡ false → t ≡ leftBy c s u t
   unfolding leftBy
-  left-alone n e y n4 n10 n14 n15 n16 = rw (e, y, n4, n10, n14, n15, n16)
+  left-alone n e y n4 n10 n14 n15 n16 n17 = rw (e, y, n4, n10, n14, n15, n16, n17)
 
-  pub left-unknown : (c .call ≡ 1 → ⊥) → (c .call ≡ 2 → ⊥) → (c .call ≡ 7 → ⊥) → (c .call ≡ 8 → ⊥) → (c .call ≡ 4 → ⊥) → (c .call ≡ 10 → ⊥) → (c .call ≡ 14 → ⊥) → (c .call ≡ 15 → ⊥) → (c .call ≡ 16 → ⊥) → t ≡ leftBy c s u t
+  pub left-unknown : (c .call ≡ 1 → ⊥) → (c .call ≡ 2 → ⊥) → (c .call ≡ 7 → ⊥) → (c .call ≡ 8 → ⊥) → (c .call ≡ 4 → ⊥) → (c .call ≡ 10 → ⊥) → (c .call ≡ 14 → ⊥) → (c .call ≡ 15 → ⊥) → (c .call ≡ 16 → ⊥) → (c .call ≡ 17 → ⊥) → t ≡ leftBy c s u t
   unfolding leftBy
-  left-unknown n1 n2 n7 n8 n4 n10 n14 n15 n16 = rw (ne-eqb (c .call) 10 n10, ne-eqb (c .call) 1 n1, ne-eqb (c .call) 2 n2, ne-eqb (c .call) 7 n7, ne-eqb (c .call) 8 n8, ne-eqb (c .call) 4 n4, ne-eqb (c .call) 14 n14, ne-eqb (c .call) 15 n15, ne-eqb (c .call) 16 n16)
+  left-unknown n1 n2 n7 n8 n4 n10 n14 n15 n16 n17 = rw (ne-eqb (c .call) 17 n17, ne-eqb (c .call) 10 n10, ne-eqb (c .call) 1 n1, ne-eqb (c .call) 2 n2, ne-eqb (c .call) 7 n7, ne-eqb (c .call) 8 n8, ne-eqb (c .call) 4 n4, ne-eqb (c .call) 14 n14, ne-eqb (c .call) 15 n15, ne-eqb (c .call) 16 n16)
 
-pub ruleset made-laws = (evaluated-told, made-reading, made-rounding, made-exact, made-content, made-packet, made-part, made-force, made-totals, made-edit, made-step, made-unknown, left-reading, left-content, left-packet, left-totals, left-edit, left-step, left-alone, left-unknown)
+pub ruleset made-laws = (evaluated-told, made-reading, made-rounding, made-exact, made-content, made-packet, made-part, made-force, made-totals, made-edit, made-write, made-step, made-unknown, left-reading, left-content, left-packet, left-totals, left-edit, left-write, left-step, left-alone, left-unknown)

@@ -1,17 +1,17 @@
 -- A case: a header of 56 bytes, the first text (ledger, expression, content or packet), the second (6: the tag; 5: the
 -- text that is expected; 10: the working space, c bytes, and the other behind it; 14: the row table that is given, d
--- bytes, and the new bytes behind it; 15: the row table that is read), the lent buffer before the call (1, 2, 7, 8, 14:
--- row table; 4: output; 6: the row table that is read; 10: the items; 15: the packet; 16: the row's buffer, b bytes,
--- and the text's behind it) and as it must be after it. The header has numbers
+-- bytes, and the new bytes behind it; 15: the row table that is read; 17: the working space), the lent buffer before
+-- the call (1, 2, 7, 8, 14: row table; 4 and 17: output; 6: the row table that is read; 10: the items; 15: the packet;
+-- 16: the row's buffer, b bytes, and the text's behind it) and as it must be after it. The header has numbers
 -- of four bytes: the call, a, b, c and d, the bytes of the first text, of the second and of the buffer, then what must
 -- be answered: number (0: accepted), place, count and one that is 0; last the value, of eight bytes.
 -- Calls: 1 plain reading, 2 recovering reading, 3 single expression, 4 string content, 5 text of a span from a to b, 6
 -- tag in force after a rows, 7 and 8 strict reading and strict recovering reading (M-110), 9 single expression in the
--- exact form (M-106; 3 rounds), 10 totals of the year a and the month b, after which the first d bytes of each working
--- space must be zeros and the others as they were (M-108), 12 and 13 single expression in both forms by the second
--- engine (M-113), 14 an edit of the block from a to b, of which c rows are given (M-109), 15 the packet of a rows, 16
--- one step of a packet's reader that stands at a; c is what it must hand out: 0 nothing, 1 an entry's row, 2 a detail's
--- row with its text (M-112).
+-- exact form (M-106; 3 rounds), 10 totals of the year a and the month b (M-108), 12 and 13 single expression in both
+-- forms by the second engine (M-113), 14 an edit of the block from a to b, of which c rows are given (M-109), 15 the
+-- packet of a rows, 16 one step of a packet's reader that stands at a; c is what it must hand out: 0 nothing, 1 an
+-- entry's row, 2 a detail's row with its text (M-112), 17 a ledger written afresh (M-103). After 10 and 17 the first d
+-- bytes of each working space must be zeros and the others as they were.
 use mathlib.Core.Bool.{cond}
 use lib.Dec.{eqb}
 use mathlib.Core.List.{List}

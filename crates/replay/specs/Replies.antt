@@ -11,6 +11,7 @@ use Rattle.ledger.specs.Answers.{answer, left}
 use Rattle.recovery.specs.Recovering.{recovered, recoveredStrictly}
 use Rattle.edit.specs.Edits.{editing}
 use Rattle.totals.specs.Totals as totals
+use Rattle.rewrite.specs.Rewriting as rewrite
 use Rattle.decimal.specs.declared.Form.the-variants.{Exact, Rounding}
 use Rattle.access.specs.Single.{evaluated}
 use Rattle.access.specs.Contents.{contentAnswer, contentLeft}
@@ -18,7 +19,7 @@ use Rattle.access.specs.Tables.{same, inForce}
 use Rattle.bus.specs.declared.packet.Step.{Step}
 use Rattle.bus.specs.Reading.{rowLeft, textLeft, stepAt}
 use Rattle.bus.specs.Writing.{written, writtenLeft}
-use Rattle.lumbrisse.specs.Numbers.{replyOf, totalsReply, writtenReply, forceReply, evaluatedOf, partOf, handedOf}
+use Rattle.lumbrisse.specs.Numbers.{replyOf, totalsReply, rewriteReply, writtenReply, forceReply, evaluatedOf, partOf, handedOf}
 use Rattle.lumbrisse.specs.declared.reply as box
 use Rattle.replay.specs.declared.case.Case.{Case}
 use Rattle.replay.specs.declared.call.Reply.{Reply}
@@ -62,10 +63,7 @@ edited c s u t = cond (leb (c .d) (length u)) (Outcome.Answered (ofReply (replyO
 abbrev pub editedLeft : Case → List ℕ → List ℕ → List ℕ → List ℕ
 editedLeft c s u t = cond (leb (c .d) (length u)) (left (editOf c s u) t) t
 
--- ---- totals: the second text has a working space in its first c bytes, and behind them the other
-
-abbrev pub totalsOf : Case → List ℕ → List ℕ → List ℕ → totals.Outcome
-totalsOf c s u t = totals.decided s (c .a) (c .b) (length t) (length (take (c .c) u)) (length (drop (c .c) u)) (plain s)
+-- ---- working space
 
 unfoldable pub zeros : List ℕ → Bool
 zeros [] = true
@@ -75,6 +73,15 @@ zeros (b ∷ y) = eqb b 0 && zeros y
 abbrev pub wiped : ℕ → List ℕ → List ℕ → Bool
 wiped d x y = leb d (length x) && (leb d (length y) && (zeros (take d y) && same (drop d y) (drop d x)))
 
+-- a reply, and 1 in place of what is handed out where a working space is not as it must be
+abbrev pub ofSpaced : box.Reply.Reply → Bool → Reply
+ofSpaced r kept = record { number = r .number; place = r .place; count = r .count; value = 0; tag = cond kept 0 1 }
+
+-- ---- totals: the second text has a working space in its first c bytes, and behind them the other
+
+abbrev pub totalsOf : Case → List ℕ → List ℕ → List ℕ → totals.Outcome
+totalsOf c s u t = totals.decided s (c .a) (c .b) (length t) (length (take (c .c) u)) (length (drop (c .c) u)) (plain s)
+
 -- the same of both, which stand one behind the other, n bytes and the rest; afterwards they are the fronts of y and z
 abbrev pub bothWiped : ℕ → ℕ → List ℕ → List ℕ → List ℕ → Bool
 bothWiped n d u y z = wiped d (take n u) (take n y) && wiped d (drop n u) (take (length u - n) z)
@@ -82,18 +89,23 @@ bothWiped n d u y z = wiped d (take n u) (take n y) && wiped d (drop n u) (take 
 abbrev pub spacesKept : Case → List ℕ → totals.Outcome → Bool
 spacesKept c u o = bothWiped (c .c) (c .d) u (totals.workLeft o (take (c .c) u)) (totals.workLeft o (drop (c .c) u))
 
--- a reply, and 1 in place of what is handed out where a working space is not as it must be
-abbrev pub ofTotals : box.Reply.Reply → Bool → Reply
-ofTotals r kept = record { number = r .number; place = r .place; count = r .count; value = 0; tag = cond kept 0 1 }
-
 -- a case whose working space is longer than both is none
 abbrev pub totalled : Case → List ℕ → List ℕ → List ℕ → Outcome
 totalled c s u t =
     let o = totalsOf c s u t in
-    cond (leb (c .c) (length u)) (Outcome.Answered (ofTotals (totalsReply (totals.answerOf o)) (spacesKept c u o))) Outcome.Unknown
+    cond (leb (c .c) (length u)) (Outcome.Answered (ofSpaced (totalsReply (totals.answerOf o)) (spacesKept c u o))) Outcome.Unknown
 
 abbrev pub totalledLeft : Case → List ℕ → List ℕ → List ℕ → List ℕ
 totalledLeft c s u t = cond (leb (c .c) (length u)) (totals.itemsLeft (totalsOf c s u t) t) t
+
+-- ---- a ledger written afresh: the second text is the working space
+
+abbrev pub rewritten : Case → List ℕ → List ℕ → List ℕ → Outcome
+rewritten c s u t =
+    Outcome.Answered (ofSpaced (rewriteReply (rewrite.answered s (length t) (length u) (plain s))) (wiped (c .d) u (rewrite.workLeft u (plain s))))
+
+abbrev pub rewrittenLeft : List ℕ → List ℕ → List ℕ → List ℕ
+rewrittenLeft s u t = rewrite.outputLeft s (length u) t (plain s)
 
 -- the calls of a single expression by their form; 12 and 13 are the second engine's (M-113), which answers as the first
 abbrev pub isRounding : ℕ → Bool
@@ -127,13 +139,16 @@ outcome c s u t =
     (cond (eqb k 5) part
     (cond (eqb k 6) force
     (cond (eqb k 10) (totalled c s u t)
-    (cond (eqb k 14) (edited c s u t) (cond (eqb k 15) packet (cond (eqb k 16) (stepped (c .a) (c .b) s t) Outcome.Unknown)))))))))
+    (cond (eqb k 14) (edited c s u t)
+    (cond (eqb k 15) packet
+    (cond (eqb k 16) (stepped (c .a) (c .b) s t) (cond (eqb k 17) (rewritten c s u t) Outcome.Unknown))))))))))
 
--- the lent buffer afterwards: readings, string content, totals, an edit, a packet and a step of its reader write
+-- the lent buffer afterwards: readings, string content, totals, an edit, a packet, a step of its reader
+-- and a ledger written afresh write
 unfoldable pub leftBy : Case → List ℕ → List ℕ → List ℕ → List ℕ
 leftBy c s u t =
     let k = c .call in
     cond (isReading k) (left (readingOf k s) t)
     (cond (eqb k 4) (contentLeft s t)
     (cond (eqb k 10) (totalledLeft c s u t)
-    (cond (eqb k 14) (editedLeft c s u t) (cond (eqb k 15) (writtenLeft s (c .a) u t) (cond (eqb k 16) (steppedLeft (c .a) (c .b) s t) t)))))
+    (cond (eqb k 14) (editedLeft c s u t) (cond (eqb k 15) (writtenLeft s (c .a) u t) (cond (eqb k 16) (steppedLeft (c .a) (c .b) s t) (cond (eqb k 17) (rewrittenLeft s u t) t))))))

@@ -1,4 +1,5 @@
 // The calls that a box makes, each with its answer as four numbers.
+use crate::afresh;
 use crate::case::Case;
 use crate::change;
 use crate::display;
@@ -40,6 +41,8 @@ pub const PACKET: usize = 15;
 
 pub const STEP: usize = 16;
 
+pub const WRITE: usize = 17;
+
 // Number 0: accepted. What an answer has not is 0.
 pub struct Reply {
     pub number: usize,
@@ -47,7 +50,7 @@ pub struct Reply {
     pub count: usize,
     // Two's complement.
     pub value: usize,
-    // What a step of a packet's reader handed out; of totals, 1 where a working space is not as it must be.
+    // What a step of a packet's reader handed out; of a call with working space, 1 where it is not as it must be.
     pub tag: usize,
 }
 
@@ -99,7 +102,7 @@ fn of_part(p: reply::Part) -> Outcome
 }
 
 // The call of a case. A step of a packet's reader takes two buffers, and has `spare` for one of them; totals have
-// `work` and `spare` for their working spaces.
+// `work` and `spare` for their working spaces, a ledger written afresh has `work`.
 pub fn made(
     c: Case,
     first: &[u8],
@@ -129,6 +132,7 @@ pub fn made(
         EDIT => change::edited(c, first, second, lent),
         PACKET => of_reply(lumbrisse::lumbrisse_packet_write(first, second, c.a, lent)),
         STEP => display::stepped(first, c.a, c.b, lent, spare),
+        WRITE => afresh::rewritten(c, first, second, lent, work),
         _ => Outcome::Unknown,
     }
 }

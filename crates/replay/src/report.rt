@@ -24,6 +24,7 @@ fn write_name(call: usize) {
         call::SINGLE_EXACT => write(b"single expression, exact"),
         call::TOTALS => write(b"monthly totals"),
         call::PACKET => write(b"packet"),
+        call::WRITE => write(b"ledger written afresh"),
         call::STEP => write(b"step of a packet's reader"),
         _ => {
             write(b"call ");

@@ -84,6 +84,9 @@ of-reply-requires-7 c κs = search needs
 stepped-requires : tie.Need-stepped-requires
 stepped-requires c κs = search needs
 
+rewritten-requires : tie.Need-rewritten-requires
+rewritten-requires c κs = search needs
+
 same-length : tie.Need-same-length
 same-length c = search needs
 
@@ -168,8 +171,17 @@ same-length-13 c = search needs
 returns-15 : tie.Need-returns-15
 returns-15 c = search (needs, made-laws)
 
+same-length-14 : tie.Need-same-length-14
+same-length-14 c = search needs
+
+same-length-15 : tie.Need-same-length-15
+same-length-15 c = search needs
+
 returns-16 : tie.Need-returns-16
 returns-16 c = search (needs, made-laws)
+
+returns-17 : tie.Need-returns-17
+returns-17 c = search (needs, made-laws)
 
 pub made-spec : {M : Type 1} → statement M
 made-spec =
@@ -202,6 +214,7 @@ made-spec =
     lumbrisse-packet-write-requires
     of-reply-requires-7
     stepped-requires
+    rewritten-requires
     same-length
     returns
     same-length-2
@@ -230,4 +243,7 @@ made-spec =
     same-length-12
     same-length-13
     returns-15
-    returns-16)
+    same-length-14
+    same-length-15
+    returns-16
+    returns-17)

@@ -43,8 +43,8 @@ lumbrisse-totals-requires c κs = search needs
 is-kept-requires : tie.Need-is-kept-requires
 is-kept-requires c κs = search needs
 
-of-totals-requires : tie.Need-of-totals-requires
-of-totals-requires c κs = search needs
+of-spaced-requires : tie.Need-of-spaced-requires
+of-spaced-requires c κs = search needs
 
 same-length : tie.Need-same-length
 same-length c = search needs
@@ -71,7 +71,7 @@ returns-2 c =
     let x = worked .copy-part .ensures in
     let y = spared .copy-part2 .ensures in
     let p = call .lumbrisse-totals .ensures in (
-      totals-told (a .c) _ (a .second .now) _ h _ refl _ _ _ _ v w t x y _ p (omega (arith, kept)) (omega (arith, kept)) _ (c .before .is-kept .ensures) _ (c .of-totals .ensures),
+      totals-told (a .c) _ (a .second .now) _ h _ refl _ _ _ _ v w t x y _ p (omega (arith, kept)) (omega (arith, kept)) _ (c .before .is-kept .ensures) _ (c .of-spaced .ensures),
       totals-left (a .c) _ (a .second .now) _ h _ refl _ _ _ _ v w t x y _ p,
     )
 
@@ -91,7 +91,7 @@ totalled-spec =
     part-lumbrisse-totals-end-2
     lumbrisse-totals-requires
     is-kept-requires
-    of-totals-requires
+    of-spaced-requires
     same-length
     same-length-2
     same-length-3

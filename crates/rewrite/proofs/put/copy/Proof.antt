@@ -1,0 +1,41 @@
+use Rattle.rewrite.proofs.PutLaws.{copy-laws}
+use borrow.Author.Needs.{needs}
+use Rattle.rewrite.proofs.put.copy.Statement.{statement}
+use Rattle.rewrite.proofs.put.copy.Tie as tie
+
+further-requires : tie.Need-further-requires
+further-requires c κs = search needs
+
+returns : tie.Need-returns
+returns c = search (needs, copy-laws)
+
+sub-if2 : tie.Need-sub-if2
+sub-if2 c = search needs
+
+further-requires-2 : tie.Need-further-requires-2
+further-requires-2 c κs = search needs
+
+returns-2 : tie.Need-returns-2
+returns-2 c = search (needs, copy-laws)
+
+copy-whole-requires : tie.Need-copy-whole-requires
+copy-whole-requires c κs = search needs
+
+same-length : tie.Need-same-length
+same-length c = search needs
+
+returns-3 : tie.Need-returns-3
+returns-3 c = search needs
+
+pub copy-spec : {M : Type 1} → statement M
+copy-spec =
+    tie.close
+    (tie.spec
+    further-requires
+    returns
+    sub-if2
+    further-requires-2
+    returns-2
+    copy-whole-requires
+    same-length
+    returns-3)
