@@ -7,6 +7,8 @@ use std::path::PathBuf;
 pub enum Job {
     /// Compares ledgers with the oracle.
     Ledgers(Arguments),
+    /// Compares ledgers with what they are when written afresh; `count` of them are written.
+    Written(Arguments),
     /// Compares the two engines, and the model, on expressions.
     Expressions {
         /// How many are made.
@@ -21,7 +23,7 @@ pub enum Job {
 pub struct Arguments {
     /// The oracle's folder.
     pub oracle: PathBuf,
-    /// How many ledgers are made.
+    /// How many ledgers are made, or written.
     pub count: u64,
     /// What the ledgers are made from: the same seed and count make the same ledgers.
     pub seed: u64,
@@ -35,6 +37,7 @@ pub struct Arguments {
 
 const USAGE: &str =
     "usage: differential --oracle DIR [--count N] [--seed S] [--real FILE].. [--smallest N] [--sample FILE]
+       differential --oracle DIR --written N [--seed S] [--real FILE]..
        differential --expressions N [--seed S]";
 
 /// The seed where none is given.
@@ -51,10 +54,27 @@ fn parsed(mut words: impl Iterator<Item = String>, oracle: Option<PathBuf>) -> R
     while let Some(name) = words.next() {
         pairs.push((name, words.next().ok_or(USAGE)?));
     }
-    match pairs.iter().any(|(name, _)| name == "--expressions") {
-        true => expressions(pairs),
-        false => ledgers(pairs, oracle.unwrap_or_default()).map(Job::Ledgers),
+    let has = |wanted| pairs.iter().any(|(name, _)| name == wanted);
+    let oracle = oracle.unwrap_or_default();
+    match (has("--expressions"), has("--written")) {
+        (true, _) => expressions(pairs),
+        (false, true) => written(pairs, oracle).map(Job::Written),
+        (false, false) => ledgers(pairs, oracle).map(Job::Ledgers),
     }
+}
+
+/// The words of a run that writes ledgers: it takes no other number, and shows no sample.
+fn written(pairs: Vec<(String, String)>, oracle: PathBuf) -> Result<Arguments, String> {
+    let of_ledgers = |(name, value): (String, String)| match name.as_str() {
+        "--written" => Ok(("--count".to_owned(), value)),
+        "--oracle" | "--seed" | "--real" => Ok((name, value)),
+        _ => Err(format!("{name} is not known here\n{USAGE}")),
+    };
+    let pairs = pairs
+        .into_iter()
+        .map(of_ledgers)
+        .collect::<Result<_, _>>()?;
+    ledgers(pairs, oracle)
 }
 
 fn expressions(pairs: Vec<(String, String)>) -> Result<Job, String> {
@@ -118,6 +138,15 @@ mod tests {
     }
 
     #[test]
+    fn so_many_ledgers_are_written() {
+        let got = of("--oracle /o --real a --written 5 --seed 7");
+        assert!(got.is_ok_and(|job| matches!(
+            job,
+            Job::Written(a) if a.count == 5 && a.seed == 7 && a.real.len() == 1
+        )));
+    }
+
+    #[test]
     fn expressions_need_no_oracle() {
         for text in ["--expressions 5 --seed 7", "--seed 7 --expressions 5"] {
             let got = of(text);
@@ -136,6 +165,11 @@ mod tests {
             "--expressions",
             "--expressions x",
             "--expressions 5 --count 5",
+            "--written 5",
+            "--oracle /o --written x",
+            "--oracle /o --written 5 --count 5",
+            "--oracle /o --written 5 --sample a",
+            "--oracle /o --written 5 --expressions 5",
         ] {
             assert!(of(text).is_err(), "{text}");
         }

@@ -1,14 +1,17 @@
 //! Compares the reader with the crate that it replaces, beancount-parser 2.6.0, inside the domain of documents 01 and
-//! 02, and the reader's two engines for expressions with each other and with a model.
+//! 02; what both read in ledgers and in the same ledgers written afresh; and the reader's two engines for expressions
+//! with each other and with a model.
 //!
 //! ```text
 //! differential --oracle DIR [--count N] [--seed S] [--real FILE].. [--smallest N] [--sample FILE]
+//! differential --oracle DIR --written N [--seed S] [--real FILE]..
 //! differential --expressions N [--seed S]
 //! ```
 //!
 //! DIR is the oracle's folder (or the variable ORACLE), to which `oracle/build` has added the program `both`. Ends with
 //! 1 where an answer differs, and then shows the smallest ledger or expression found that does; and where a run of
-//! 100,000 or more never compared a production of the grammar, or never met a number that an expression can get.
+//! 100,000 or more never compared a production of the grammar, never wrote a kind of row, or never met a number that an
+//! expression can get.
 
 #![deny(unsafe_code, missing_docs)]
 #![deny(clippy::unwrap_used, clippy::expect_used, clippy::panic)]
@@ -25,25 +28,26 @@ mod model;
 mod oracle;
 mod production;
 mod random;
+#[path = "../../lumbrisse/tests/model/said.rs"]
+mod said;
 mod sample;
 mod shown;
 mod shrink;
 mod source;
 mod tally;
 mod verdict;
+mod written;
 
 use std::collections::{BTreeMap, BTreeSet};
 use std::io::{self, Write};
-use std::path::Path;
+use std::path::{Path, PathBuf};
 use std::process::ExitCode;
-use std::sync::mpsc;
-use std::thread;
 use std::time::Instant;
 
 use arguments::{Arguments, Job};
 use oracle::Single;
 use random::Random;
-use source::{made, plain, Made, Source};
+use source::{Made, Source};
 use tally::Tally;
 use verdict::{verdict, Verdict, Where};
 
@@ -70,25 +74,8 @@ struct Found {
     due: bool,
 }
 
-/// Has every ledger answered by the oracle and by the reader, and compares. The oracle works beside this program.
+/// Has every ledger answered by the oracle and by the reader, and compares.
 fn compare(arguments: &Arguments, real: &[Vec<u8>]) -> io::Result<Found> {
-    let (mut child, mut questions, mut answers) = oracle::start(&arguments.oracle)?;
-    let (sender, ledgers) = mpsc::channel();
-    let (seed, count) = (arguments.seed, arguments.count);
-    let whole = real.to_vec();
-    let asking = thread::spawn(move || -> io::Result<()> {
-        let whole_ones = whole
-            .iter()
-            .map(|ledger| plain(ledger.clone(), Source::Real));
-        let made_ones = (0..count).map(|index| made(seed, index, &whole));
-        for one in whole_ones.chain(made_ones) {
-            questions.ask(&one.ledger)?;
-            if sender.send(one).is_err() {
-                return Ok(());
-            }
-        }
-        questions.flush()
-    });
     let mut found = Found {
         tally: Tally::new(),
         differing: Vec::new(),
@@ -97,24 +84,32 @@ fn compare(arguments: &Arguments, real: &[Vec<u8>]) -> io::Result<Found> {
         cases: 0,
         due: false,
     };
+    let count = arguments.count;
     let every = count / (SAMPLE_BYTES / CASE_BYTES) as u64 + 1;
-    for (number, one) in (0u64..).zip(ledgers) {
-        let verdict = verdict(&one.ledger, &answers.next()?);
-        found.tally.add(&one, &verdict);
-        found.due |= arguments.sample.is_some() && number % every == 0;
-        keep(&mut found, arguments, one, &verdict);
-    }
-    asking
-        .join()
-        .map_err(|_| io::Error::other("the asking thread ended early"))??;
-    child.wait()?;
+    let ledgers = source::all(arguments.seed, real.to_vec()).take(real.len() + count as usize);
+    let numbered = (0u64..).zip(ledgers);
+    oracle::answered(
+        &arguments.oracle,
+        numbered,
+        |(_, one)| vec![&one.ledger],
+        |(number, one), answers| {
+            for answer in answers {
+                let verdict = verdict(&one.ledger, answer);
+                found.tally.add(one, &verdict);
+                found.due |= arguments.sample.is_some() && number % every == 0;
+                keep(&mut found, arguments, one, &verdict);
+            }
+        },
+    )?;
     Ok(found)
 }
 
 /// Keeps ledgers that differ, some of each known reason, and the sample. A sampled ledger is one that both read.
-fn keep(found: &mut Found, arguments: &Arguments, one: Made, verdict: &Verdict) {
+fn keep(found: &mut Found, arguments: &Arguments, one: &Made, verdict: &Verdict) {
     match verdict {
-        Verdict::Differs(_) if found.differing.len() < KEPT => found.differing.push(one.ledger),
+        Verdict::Differs(_) if found.differing.len() < KEPT => {
+            found.differing.push(one.ledger.clone());
+        }
         Verdict::Same if found.due && one.source != Source::Real => {
             let mut random = Random::of(arguments.seed, found.cases as u64);
             let case = sample::case(&one.ledger, &mut random).unwrap_or_default();
@@ -127,7 +122,7 @@ fn keep(found: &mut Found, arguments: &Arguments, one: Made, verdict: &Verdict) 
         _ => {
             let list = found.known.entry(known_name(verdict)).or_default();
             if list.len() < arguments.smallest {
-                list.push(one.ledger);
+                list.push(one.ledger.clone());
             }
         }
     }
@@ -178,12 +173,13 @@ fn report_smallest(folder: &Path, found: &Found, out: &mut impl Write) -> io::Re
     oracle.stop()
 }
 
+/// The real ledgers of a run.
+fn real(files: &[PathBuf]) -> io::Result<Vec<Vec<u8>>> {
+    files.iter().map(std::fs::read).collect()
+}
+
 fn run(arguments: &Arguments) -> io::Result<bool> {
-    let real: Vec<Vec<u8>> = arguments
-        .real
-        .iter()
-        .map(std::fs::read)
-        .collect::<io::Result<_>>()?;
+    let real = real(&arguments.real)?;
     let start = Instant::now();
     let found = compare(arguments, &real)?;
     let seconds = start.elapsed().as_secs_f64();
@@ -222,6 +218,9 @@ fn run(arguments: &Arguments) -> io::Result<bool> {
 fn main() -> ExitCode {
     let passed = match arguments::given() {
         Ok(Job::Ledgers(arguments)) => run(&arguments),
+        Ok(Job::Written(arguments)) => {
+            real(&arguments.real).and_then(|real| written::run(&arguments, &real))
+        }
         Ok(Job::Expressions { count, seed }) => expressions::run(count, seed),
         Err(message) => Err(io::Error::other(message)),
     };

@@ -3,6 +3,8 @@
 use std::io::{self, BufRead, BufReader, BufWriter, Write};
 use std::path::Path;
 use std::process::{Child, ChildStdin, ChildStdout, Command, Stdio};
+use std::sync::{mpsc, Arc};
+use std::thread;
 
 /// How one of the two crates ended.
 #[derive(Clone, Debug, PartialEq, Eq)]
@@ -29,16 +31,16 @@ pub struct Answer {
 }
 
 /// Where ledgers are asked.
-pub struct Questions(BufWriter<ChildStdin>);
+struct Questions(BufWriter<ChildStdin>);
 
 /// Where answers are read, in the order of the ledgers.
-pub struct Answers {
+struct Answers {
     output: BufReader<ChildStdout>,
     line: String,
 }
 
 /// Starts the program of an oracle's folder.
-pub fn start(folder: &Path) -> io::Result<(Child, Questions, Answers)> {
+fn start(folder: &Path) -> io::Result<(Child, Questions, Answers)> {
     let program = folder.join("target/release/both");
     let mut child = Command::new(&program)
         .stdin(Stdio::piped())
@@ -61,13 +63,13 @@ fn closed() -> io::Error {
 
 impl Questions {
     /// Asks about a ledger.
-    pub fn ask(&mut self, ledger: &[u8]) -> io::Result<()> {
+    fn ask(&mut self, ledger: &[u8]) -> io::Result<()> {
         writeln!(self.0, "{}", ledger.len())?;
         self.0.write_all(ledger)
     }
 
     /// Hands over what was asked so far.
-    pub fn flush(&mut self) -> io::Result<()> {
+    fn flush(&mut self) -> io::Result<()> {
         self.0.flush()
     }
 }
@@ -93,7 +95,7 @@ impl Answers {
     }
 
     /// The answer to the next ledger.
-    pub fn next(&mut self) -> io::Result<Answer> {
+    fn next(&mut self) -> io::Result<Answer> {
         let unchanged = self.end()?;
         let rule_3 = match unchanged {
             End::Error => Some(self.end()?),
@@ -115,6 +117,42 @@ impl Answers {
             entries,
         })
     }
+}
+
+/// Has the ledgers of each thing that is made answered, and hands it on with the answers. The oracle works beside this
+/// program, and so does the making.
+pub fn answered<T: Send + Sync + 'static>(
+    folder: &Path,
+    made: impl Iterator<Item = T> + Send + 'static,
+    ledgers: fn(&T) -> Vec<&[u8]>,
+    mut add: impl FnMut(&T, &[Answer]),
+) -> io::Result<()> {
+    let (mut child, mut questions, mut answers) = start(folder)?;
+    let (sender, asked) = mpsc::channel();
+    let asking = thread::spawn(move || -> io::Result<()> {
+        for one in made.map(Arc::new) {
+            // Answers are waited for from here on: the oracle may have to hand over a long one before it takes the next
+            // question.
+            if sender.send(Arc::clone(&one)).is_err() {
+                return Ok(());
+            }
+            for ledger in ledgers(&one) {
+                questions.ask(ledger)?;
+            }
+        }
+        questions.flush()
+    });
+    for one in asked {
+        let count = ledgers(&one).len();
+        let found: Vec<Answer> = (0..count)
+            .map(|_| answers.next())
+            .collect::<io::Result<_>>()?;
+        add(&one, &found);
+    }
+    asking
+        .join()
+        .map_err(|_| io::Error::other("the asking thread ended early"))??;
+    child.wait().map(|_| ())
 }
 
 /// An oracle that is asked about one ledger at a time.

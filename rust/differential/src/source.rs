@@ -50,8 +50,19 @@ pub struct Made {
     pub taken: Taken,
 }
 
+/// The ledgers of a run, without end: the real ones whole, then those that are made.
+pub fn all(seed: u64, real: Vec<Vec<u8>>) -> impl Iterator<Item = Made> {
+    let whole: Vec<Made> = real
+        .iter()
+        .map(|ledger| plain(ledger.clone(), Source::Real))
+        .collect();
+    whole
+        .into_iter()
+        .chain((0..).map(move |index| made(seed, index, &real)))
+}
+
 /// The ledger number `index` of a run.
-pub fn made(seed: u64, index: u64, real: &[Vec<u8>]) -> Made {
+fn made(seed: u64, index: u64, real: &[Vec<u8>]) -> Made {
     let random = &mut Random::of(seed, index);
     let kinds = if real.is_empty() { 16 } else { 20 };
     match random.below(kinds) {
@@ -87,7 +98,7 @@ pub fn made(seed: u64, index: u64, real: &[Vec<u8>]) -> Made {
 }
 
 /// A ledger that is not as the grammar made it.
-pub fn plain(ledger: Vec<u8>, source: Source) -> Made {
+fn plain(ledger: Vec<u8>, source: Source) -> Made {
     Made {
         ledger,
         source,

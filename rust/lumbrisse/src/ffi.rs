@@ -1,4 +1,4 @@
-//! The archive's fifteen functions, and the only unsafe code: each is called with pointer and length of a live slice.
+//! The archive's sixteen functions, and the only unsafe code: each is called with pointer and length of a live slice.
 #![allow(unsafe_code)]
 
 /// The answer of a call that reads or writes: number 0 is accepted.
@@ -138,31 +138,39 @@ mod archive {
             spare: *mut u8,
             spare_length: usize,
         ) -> Reply;
+        pub fn lumbrisse_write(
+            ledger: *const u8,
+            ledger_length: usize,
+            output: *mut u8,
+            output_length: usize,
+            work: *mut u8,
+            work_length: usize,
+        ) -> Reply;
     }
 }
 
 pub fn read(ledger: &[u8], table: &mut [u8]) -> Reply {
-    write(archive::lumbrisse_read, ledger, table)
+    fill(archive::lumbrisse_read, ledger, table)
 }
 
 pub fn read_strict(ledger: &[u8], table: &mut [u8]) -> Reply {
-    write(archive::lumbrisse_read_strict, ledger, table)
+    fill(archive::lumbrisse_read_strict, ledger, table)
 }
 
 pub fn recover(ledger: &[u8], table: &mut [u8]) -> Reply {
-    write(archive::lumbrisse_recover, ledger, table)
+    fill(archive::lumbrisse_recover, ledger, table)
 }
 
 pub fn recover_strict(ledger: &[u8], table: &mut [u8]) -> Reply {
-    write(archive::lumbrisse_recover_strict, ledger, table)
+    fill(archive::lumbrisse_recover_strict, ledger, table)
 }
 
 pub fn content(content: &[u8], buffer: &mut [u8]) -> Reply {
-    write(archive::lumbrisse_content, content, buffer)
+    fill(archive::lumbrisse_content, content, buffer)
 }
 
 /// Calls one of the five functions that take a text and write to a buffer.
-fn write(
+fn fill(
     function: unsafe extern "C" fn(*const u8, usize, *mut u8, usize) -> Reply,
     text: &[u8],
     buffer: &mut [u8],
@@ -219,7 +227,7 @@ pub fn span(ledger: &[u8], start: usize, end: usize) -> Part {
 }
 
 pub fn packet_write(ledger: &[u8], table: &[u8], k: usize, packet: &mut [u8]) -> Reply {
-    // SAFETY: as in `write`, with `packet` as the buffer; `table` is only read, within its length, whatever its
+    // SAFETY: as in `fill`, with `packet` as the buffer; `table` is only read, within its length, whatever its
     // bytes and `k` are.
     unsafe {
         archive::lumbrisse_packet_write(
@@ -260,7 +268,7 @@ pub fn edit(
     new: &[u8],
     table: &mut [u8],
 ) -> Reply {
-    // SAFETY: as in `write`, with `table` as the buffer; `old`, `rows` and `new` are only read, within their lengths,
+    // SAFETY: as in `fill`, with `table` as the buffer; `old`, `rows` and `new` are only read, within their lengths,
     // whatever their bytes, `k`, `start` and `end` are.
     unsafe {
         archive::lumbrisse_edit(
@@ -302,6 +310,21 @@ pub fn totals(
             work.len(),
             spare.as_mut_ptr(),
             spare.len(),
+        )
+    }
+}
+
+pub fn write(ledger: &[u8], output: &mut [u8], work: &mut [u8]) -> Reply {
+    // SAFETY: as in `totals`, with `output` and `work` as what is written to: for any bytes and lengths, and within
+    // them.
+    unsafe {
+        archive::lumbrisse_write(
+            ledger.as_ptr(),
+            ledger.len(),
+            output.as_mut_ptr(),
+            output.len(),
+            work.as_mut_ptr(),
+            work.len(),
         )
     }
 }

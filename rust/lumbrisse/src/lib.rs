@@ -2,7 +2,7 @@
 //!
 //! The reader is written in Rattle and proved against the rules of document 01; this crate links its archive and gives its calls
 //! Rust types. Any bytes at all get rows or a [`Refusal`] with its number and place; nothing panics, and a refused call leaves
-//! every byte of the buffers that it was lent, working space aside ([`totals`]).
+//! every byte of the buffers that it was lent, working space aside ([`totals`], [`write`]).
 //!
 //! | call | gives |
 //! |---|---|
@@ -21,13 +21,15 @@
 //! | [`packet_next`] | one row of a packet, with its text |
 //! | [`edit`] | the rows of a ledger in which one block was replaced, with that block alone read anew |
 //! | [`totals`] | what the postings of a month come to, for each account and currency |
+//! | [`write`] | the ledger written afresh, in one layout |
 //!
 //! These lend buffers and allocate nothing. [`read_to_vec`], [`read_strict_to_vec`], [`recover_to_vec`],
-//! [`recover_strict_to_vec`], [`packet_to_vec`], [`edit_to_vec`] and [`totals_to_vec`] make a table, a packet or items
-//! that are large enough. [`Rows`] goes over a table row by row, [`Packets`] over a packet, [`Totals`] over items.
-//! [`Reading`] keeps a ledger and its rows together while blocks of it are replaced; [`block_at`] says where one is.
+//! [`recover_strict_to_vec`], [`packet_to_vec`], [`edit_to_vec`], [`totals_to_vec`] and [`written`] make a table, a
+//! packet, items or a text that are large enough. [`Rows`] goes over a table row by row, [`Packets`] over a packet,
+//! [`Totals`] over items. [`Reading`] keeps a ledger and its rows together while blocks of it are replaced; [`block_at`]
+//! says where one is.
 //!
-//! Without its default feature `std` the crate is `no_std`, for a display: all but the seven calls that allocate,
+//! Without its default feature `std` the crate is `no_std`, for a display: all but the eight calls that allocate,
 //! [`Reading`], and `std::error::Error` for a refusal, is there.
 //!
 //! ```
@@ -72,6 +74,7 @@ mod refusal;
 mod row;
 mod table;
 mod totals;
+mod writer;
 
 pub use call::{
     content, expression, expression_exact, expression_stacked, expression_stacked_exact, read,
@@ -84,7 +87,7 @@ pub use millionths::Millionths;
 #[cfg(feature = "std")]
 pub use owned::{
     edit_to_vec, packet_to_vec, read_strict_to_vec, read_to_vec, recover_strict_to_vec,
-    recover_to_vec, totals_to_vec,
+    recover_to_vec, totals_to_vec, written,
 };
 pub use packet::{packet, packet_next, Handed, PacketRow, Packets, TEXT_LIMIT};
 #[cfg(feature = "std")]
@@ -93,3 +96,4 @@ pub use refusal::{Refusal, Short};
 pub use row::Row;
 pub use table::{Rows, ROW_BYTES};
 pub use totals::{totals, Total, Totals, TOTAL_BYTES};
+pub use writer::write;

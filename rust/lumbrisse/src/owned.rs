@@ -1,9 +1,9 @@
-//! The calls that make their own table, packet or items.
+//! The calls that make their own table, packet, items or text.
 
 use std::vec::Vec;
 
 use crate::{
-    edit, packet, read, read_strict, recover, recover_strict, totals, Edit, Refusal, Short,
+    edit, packet, read, read_strict, recover, recover_strict, totals, write, Edit, Refusal, Short,
     ROW_BYTES, SIZE_LIMIT, TOTAL_BYTES,
 };
 
@@ -132,6 +132,45 @@ pub fn totals_to_vec(ledger: &[u8], year: usize, month: usize) -> Result<Vec<u8>
     }
     items.truncate(answer?.saturating_mul(TOTAL_BYTES));
     Ok(items)
+}
+
+/// A ledger written afresh, in bytes of its own and with working space of its own.
+///
+/// Refused as [`write`] is; with 9 only where the memory for the need cannot be had. The text may be longer than
+/// [`SIZE_LIMIT`]: then it is no ledger that can be read again.
+///
+/// ```
+/// let ledger = b"; readings\n2024-01-31  price\tKWH  0.310 EUR ; of the year\n\n";
+/// let text = lumbrisse::written(ledger)?;
+/// assert_eq!(text, b"; readings\n2024-01-31 price KWH 0.31 EUR\n");
+/// assert_eq!(lumbrisse::written(&text)?, text);
+/// assert_eq!(lumbrisse::written(b"2024-01-31\n").unwrap_err().number, 4);
+/// # Ok::<(), lumbrisse::Refusal>(())
+/// ```
+pub fn written(ledger: &[u8]) -> Result<Vec<u8>, Refusal> {
+    let (mut output, mut work) = (Vec::new(), Vec::new());
+    // What is written is mostly shorter than the ledger. A guess that no memory can be had for leaves its buffer empty.
+    let _ = lengthen(&mut output, ledger.len().min(SIZE_LIMIT));
+    let _ = lengthen(&mut work, first_rows(ledger).saturating_mul(ROW_BYTES));
+    loop {
+        let refusal = match write(ledger, &mut output, &mut work) {
+            Ok(count) => {
+                output.truncate(count);
+                return Ok(output);
+            }
+            Err(refusal) => refusal,
+        };
+        let (buffer, need) = match refusal.short() {
+            None => return Err(refusal),
+            Some(Short::Work { need }) => (&mut work, need),
+            Some(Short::Answer { need }) => (&mut output, need),
+        };
+        // Each buffer is lengthened once: it is not short of its need again.
+        if need <= buffer.len() {
+            return Err(refusal);
+        }
+        lengthen(buffer, need).ok_or(refusal)?;
+    }
 }
 
 /// The rows of a ledger, in a first table that fits most of them.

@@ -10,7 +10,7 @@ use std::path::PathBuf;
 use lumbrisse::{
     content, edit, expression, expression_exact, expression_stacked, expression_stacked_exact,
     packet, packet_next, read, read_strict, recover, recover_strict, span_text, tag_in_force,
-    totals, Edit, Evaluated, Handed, Refusal,
+    totals, write, Edit, Evaluated, Handed, Refusal,
 };
 
 /// Where another case file is named.
@@ -18,10 +18,10 @@ const NAMED: &str = "LUMBRISSE_CASES";
 
 /// The repository's own file, and how many cases it has: the model's, then those that a differential run has written.
 const OWN: &str = concat!(env!("CARGO_MANIFEST_DIR"), "/../../crates/replay/stdin");
-const OWN_CASES: usize = 1500 + 287;
+const OWN_CASES: usize = 1600 + 287;
 
 /// The numbers of the calls that this test makes.
-const CALLS: [usize; 15] = [1, 2, 3, 4, 5, 6, 7, 8, 9, 10, 12, 13, 14, 15, 16];
+const CALLS: [usize; 16] = [1, 2, 3, 4, 5, 6, 7, 8, 9, 10, 12, 13, 14, 15, 16, 17];
 
 /// The bytes of a case that are left.
 struct Left<'a>(&'a [u8]);
@@ -137,12 +137,25 @@ fn added_up(case: &Case, buffer: &mut [u8]) -> Answer {
         )
         .map(|found| found.len()),
     );
-    for (before, after) in [(work, found_work), (spare, found_spare)] {
-        let mut expected = before.to_vec();
-        expected[..zeros].fill(0);
-        assert_eq!(after, expected, "working space for {year}-{month}");
-    }
+    left_zeros(work, zeros, &found_work);
+    left_zeros(spare, zeros, &found_spare);
     answer
+}
+
+/// A ledger written afresh: the second text is `work`.
+fn written_afresh(case: &Case, buffer: &mut [u8]) -> Answer {
+    let [.., zeros] = case.numbers;
+    let mut found = case.second.to_vec();
+    let answer = counted(write(case.first, buffer, &mut found));
+    left_zeros(case.second, zeros, &found);
+    answer
+}
+
+/// Sees to it that working space has so many zeros at its front, and else the bytes that it had.
+fn left_zeros(before: &[u8], zeros: usize, after: &[u8]) {
+    let mut expected = before.to_vec();
+    expected[..zeros].fill(0);
+    assert_eq!(after, expected, "working space");
 }
 
 /// One step over a packet: the buffer is the row's, of so many bytes, and then the text's.
@@ -183,6 +196,7 @@ fn called(case: &Case, buffer: &mut [u8]) -> Answer {
         14 => edited(case, buffer),
         15 => counted(packet(case.first, case.second, a, buffer)),
         16 => stepped(case, buffer),
+        17 => written_afresh(case, buffer),
         call => panic!("the case file has a call {call}"),
     }
 }

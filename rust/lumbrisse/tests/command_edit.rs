@@ -1,10 +1,9 @@
 //! The command `lumbrisse edit` as a shell runs it: what it says, what it writes, and what it leaves.
 
+mod folder;
 mod shell;
 
-use std::fs;
-use std::path::PathBuf;
-
+use folder::Folder;
 use shell::{run, run_on, Ran};
 
 const CLEAN: &str = "examples/clean.beancount";
@@ -17,47 +16,6 @@ const RIGHT: &[u8] = b"2024-03-31 * \"Office\" \"Flat 2, corrected by hand\"
   Meters:Flat-2      (3,021.6 - 2,957.8) KWH @ 0.291 EUR
   Meters:Reference  -63.8 KWH
 ";
-
-/// A folder of a test's own, empty at first and removed at its end.
-struct Folder(PathBuf);
-
-impl Folder {
-    fn new(test: &str) -> Folder {
-        let folder = PathBuf::from(env!("CARGO_TARGET_TMPDIR")).join(test);
-        let _ = fs::remove_dir_all(&folder);
-        fs::create_dir_all(&folder).unwrap();
-        Folder(folder)
-    }
-
-    /// The path of a file in it, as a word.
-    fn word(&self, name: &str) -> String {
-        self.0.join(name).to_str().unwrap().to_string()
-    }
-
-    fn write(&self, name: &str, bytes: &[u8]) -> String {
-        fs::write(self.0.join(name), bytes).unwrap();
-        self.word(name)
-    }
-
-    fn read(&self, name: &str) -> Vec<u8> {
-        fs::read(self.0.join(name)).unwrap()
-    }
-
-    fn names(&self) -> Vec<String> {
-        let entries = fs::read_dir(&self.0).unwrap();
-        let mut names: Vec<String> = entries
-            .map(|entry| entry.unwrap().file_name().into_string().unwrap())
-            .collect();
-        names.sort();
-        names
-    }
-}
-
-impl Drop for Folder {
-    fn drop(&mut self) {
-        let _ = fs::remove_dir_all(&self.0);
-    }
-}
 
 /// The words of an edit: of a ledger's lines, what takes their place, and what else is asked for.
 fn edit<'a>(ledger: &'a str, lines: &'a str, with: &'a str, more: &[&'a str]) -> Vec<&'a str> {

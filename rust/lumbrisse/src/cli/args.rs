@@ -4,6 +4,8 @@ use std::ffi::OsString;
 
 use super::asked::{self, Asked};
 use super::change::{self, Change};
+use super::formatting::{self, Formatting};
+use super::words::{add_only, no_option, wrong, Usage, NO_FILE};
 
 /// What the words ask for.
 #[derive(Debug, PartialEq, Eq)]
@@ -12,6 +14,8 @@ pub enum Request {
     Run(Job),
     /// Monthly totals, of one ledger or of several.
     Totals(Asked),
+    /// One ledger or several, written afresh.
+    Format(Formatting),
     /// Help on everything, or on one command.
     Help(Option<Verb>),
     /// The program's name and version.
@@ -52,6 +56,7 @@ pub enum Verb {
     Packet,
     Edit,
     Totals,
+    Format,
 }
 
 /// Where a ledger, packet or expression comes from.
@@ -73,18 +78,10 @@ pub enum Form {
     Json,
 }
 
-/// What is wrong with the words.
-#[derive(Debug, PartialEq, Eq)]
-pub struct Usage(pub String);
-
-pub fn wrong<T>(message: impl Into<String>) -> Result<T, Usage> {
-    Err(Usage(message.into()))
-}
-
 /// The request that the words after the program's name stand for.
 pub fn parse(mut words: impl Iterator<Item = OsString>) -> Result<Request, Usage> {
     let Some(word) = words.next() else {
-        return wrong("which command? read, recover, eval, packet, edit or totals");
+        return wrong("which command? read, recover, eval, packet, edit, totals or format");
     };
     match word.to_str() {
         Some("-h" | "--help") => Ok(Request::Help(None)),
@@ -95,6 +92,7 @@ pub fn parse(mut words: impl Iterator<Item = OsString>) -> Result<Request, Usage
         },
         _ => match verb(&word)? {
             Verb::Totals => asked::parse(words),
+            Verb::Format => formatting::parse(words),
             verb => job(verb, words),
         },
     }
@@ -108,6 +106,7 @@ fn verb(word: &OsString) -> Result<Verb, Usage> {
         Some("packet") => Ok(Verb::Packet),
         Some("edit") => Ok(Verb::Edit),
         Some("totals") => Ok(Verb::Totals),
+        Some("format") => Ok(Verb::Format),
         _ => wrong(format!("no command is named {word:?}")),
     }
 }
@@ -173,18 +172,14 @@ impl Options {
             (Verb::Edit, "--in-place") => self.change.in_place = true,
             (Verb::Packet, "--recover") => self.recovering = true,
             (Verb::Packet, "--read") => self.reading = true,
-            _ => return wrong(format!("no option of this command is named {option}")),
+            _ => return no_option(option),
         }
         Ok(())
     }
 
     fn add_form(&mut self, form: Form) -> Result<(), Usage> {
-        match self.form.replace(form) {
-            Some(before) if before != form => {
-                wrong("--rows and --json are two forms of one answer: give one of them")
-            }
-            _ => Ok(()),
-        }
+        let two = "--rows and --json are two forms of one answer";
+        add_only(&mut self.form, form, two)
     }
 
     /// What a command with these options does with its input.
@@ -211,8 +206,8 @@ impl Options {
                     recovering: self.recovering,
                 },
                 Verb::Edit => Task::Edit(self.change.change(input)?),
-                // Its words are taken by `asked`.
-                Verb::Totals => return wrong("totals has no single file"),
+                // Their words are taken by `asked` and `formatting`.
+                Verb::Totals | Verb::Format => return wrong("it has no single file"),
             };
         Ok(task)
     }
@@ -245,21 +240,23 @@ fn one_only(verb: Verb) -> &'static str {
     match verb {
         Verb::Eval => "one expression at a time; put it between quotes",
         Verb::Edit => "one ledger at a time; what takes its lines' place stands behind --with",
-        Verb::Read | Verb::Recover | Verb::Packet | Verb::Totals => "one file at a time",
+        Verb::Read | Verb::Recover | Verb::Packet | Verb::Totals | Verb::Format => {
+            "one file at a time"
+        }
     }
 }
 
 fn missing(verb: Verb) -> &'static str {
     match verb {
         Verb::Eval => "which expression? `-` reads it from standard input",
-        _ => "which file? `-` is standard input",
+        _ => NO_FILE,
     }
 }
 
 #[cfg(test)]
 mod tests {
     use super::*;
-    use crate::cli::change::Destination;
+    use crate::cli::destination::Destination;
     use crate::cli::lines::Lines;
 
     fn parsed(words: &[&str]) -> Result<Request, Usage> {

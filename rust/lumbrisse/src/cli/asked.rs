@@ -3,7 +3,8 @@
 use std::ffi::OsString;
 use std::fmt;
 
-use super::args::{file, wrong, Input, Request, Usage, Verb};
+use super::args::{Input, Request, Verb};
+use super::words::{add_file, add_only, no_option, option, wrong, Usage, NO_FILE};
 
 /// The month of some ledgers, whether an account is held against the others, and how the answer is written.
 #[derive(Debug, PartialEq, Eq)]
@@ -62,17 +63,10 @@ pub fn parse(mut words: impl Iterator<Item = OsString>) -> Result<Request, Usage
     let (mut files, mut month, mut meter, mut shape) = (Vec::new(), None, None, None);
     let (mut behind_dashes, mut last) = (false, None);
     while let Some(word) = words.next() {
-        let option = word
-            .to_str()
-            .filter(|text| !behind_dashes && text.starts_with('-') && *text != "-");
-        match option {
+        match option(&word, behind_dashes) {
             None => {
                 last = Some(word.clone()).filter(|_| !behind_dashes);
-                let file = file(word);
-                if files.contains(&file) {
-                    return wrong("a file is given twice: it would be added up twice");
-                }
-                files.push(file);
+                add_file(&mut files, word, "it would be added up twice")?;
             }
             Some("--") => behind_dashes = true,
             Some("-h" | "--help") => return Ok(Request::Help(Some(Verb::Totals))),
@@ -80,7 +74,7 @@ pub fn parse(mut words: impl Iterator<Item = OsString>) -> Result<Request, Usage
             Some("--meter") => once("--meter", &mut meter, account(words.next())?)?,
             Some("--csv") => add_shape(&mut shape, Shape::Csv)?,
             Some("--json") => add_shape(&mut shape, Shape::Json)?,
-            Some(option) => return wrong(format!("no option of this command is named {option}")),
+            Some(option) => return no_option(option),
         }
     }
     if month.is_none() {
@@ -90,7 +84,7 @@ pub fn parse(mut words: impl Iterator<Item = OsString>) -> Result<Request, Usage
         }
     }
     if files.is_empty() {
-        return wrong("which file? `-` is standard input");
+        return wrong(NO_FILE);
     }
     let Some(month) = month else {
         return wrong("which month? Name it behind the files, as in 2024-03, or by --month");
@@ -123,12 +117,7 @@ fn once<T>(option: &str, place: &mut Option<T>, given: T) -> Result<(), Usage> {
 }
 
 fn add_shape(place: &mut Option<Shape>, shape: Shape) -> Result<(), Usage> {
-    match place.replace(shape) {
-        Some(before) if before != shape => {
-            wrong("--csv and --json are two forms of one answer: give one of them")
-        }
-        _ => Ok(()),
-    }
+    add_only(place, shape, "--csv and --json are two forms of one answer")
 }
 
 fn named(word: Option<OsString>) -> Result<Month, Usage> {

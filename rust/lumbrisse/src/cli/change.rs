@@ -2,8 +2,10 @@
 
 use std::ffi::OsString;
 
-use super::args::{file, wrong, Input, Usage};
+use super::args::{file, Input};
+use super::destination::Destination;
 use super::lines::Lines;
+use super::words::{wrong, Usage};
 
 /// Lines of a ledger, what takes their place, and where the ledger then goes.
 #[derive(Debug, PartialEq, Eq)]
@@ -11,17 +13,6 @@ pub struct Change {
     pub lines: Lines,
     pub with: Input,
     pub to: Destination,
-}
-
-/// Where an edited ledger goes.
-#[derive(Debug, PartialEq, Eq)]
-pub enum Destination {
-    /// Nowhere: what recovering reading would say of it is all there is to see.
-    Nowhere,
-    /// A file that there is not yet.
-    New(OsString),
-    /// The ledger's own file.
-    Own(OsString),
 }
 
 /// The options that make up a change, as far as they were given.

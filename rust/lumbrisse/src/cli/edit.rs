@@ -1,18 +1,16 @@
 //! Edits: lines of a ledger give way to new ones, and what recovering reading says of it then.
 
-use std::ffi::OsStr;
 use std::io::{self, Write};
 use std::ops::Range;
-use std::path::Path;
 
 use lumbrisse::{block_at, Reading, Refusal};
 
 use super::args::Form;
-use super::change::{Change, Destination};
+use super::change::Change;
 use super::lines::{self, Lines};
 use super::paint::Paint;
 use super::source::{self, Source};
-use super::{complain, human, json, refused, shown, store, told, Outcome, Status};
+use super::{complain, destination, human, json, refused, told, Outcome, Status};
 
 const BAD_START: &str =
     "start with a digit or small letter (only the first block of a file may start otherwise)";
@@ -34,7 +32,7 @@ pub fn edit(out: &mut impl Write, form: Form, change: &Change, ledger: &Source) 
         return unedited(out, form, ledger, refusal, &why);
     }
     let (bytes, table) = reading.into_parts();
-    match written(&change.to, ledger, &bytes) {
+    match destination::write(&change.to, ledger, &bytes) {
         Ok(name) => told(out, form, &Source { name, bytes }, &table),
         Err(message) => trouble(&message),
     }
@@ -43,35 +41,6 @@ pub fn edit(out: &mut impl Write, form: Form, change: &Change, ledger: &Source) 
 fn trouble(message: &str) -> Outcome {
     complain(message);
     (Ok(()), Status::Trouble)
-}
-
-/// Writes the new ledger to where it goes, says so, and gives the name by which it is spoken of.
-fn written(to: &Destination, ledger: &Source, new: &[u8]) -> Result<String, String> {
-    let (name, said) = match to {
-        Destination::Nowhere => {
-            let said = "nothing is written without --output OUT or --in-place";
-            (ledger.name.clone(), said.to_string())
-        }
-        Destination::New(path) => {
-            let name = shown_name(path);
-            store::create(Path::new(path), new)
-                .map_err(|error| format!("cannot write {name}: {error}"))?;
-            (name, "written".to_string())
-        }
-        Destination::Own(path) => {
-            let name = ledger.name.clone();
-            let kept = store::replace(Path::new(path), &ledger.bytes, new)
-                .map_err(|error| format!("cannot write {name}: {error}"))?;
-            let kept = shown_name(kept.as_os_str());
-            (name, format!("written; what it was before is {kept}"))
-        }
-    };
-    let _ = writeln!(io::stderr(), "{}: {said}", Paint::stderr().bold(&name));
-    Ok(name)
-}
-
-fn shown_name(path: &OsStr) -> String {
-    shown::text(path.as_encoded_bytes())
 }
 
 /// An edit that was refused: nothing was written, and why.

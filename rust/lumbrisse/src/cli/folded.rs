@@ -1,6 +1,8 @@
 //! Lines within a string that start like an entry or a posting: where a quote was left open and a later one closed it,
 //! such lines are part of a narration. Plain and strict reading accept that, and recovering reading may for postings.
 
+use std::ops::Range;
+
 use lumbrisse::{Kind, Row, Rows};
 
 use super::lost::behind_blanks;
@@ -76,9 +78,16 @@ fn is_part(text: &[u8]) -> bool {
 
 /// The string of a row, where it has one.
 fn string<'a>(ledger: &'a [u8], row: &Row) -> Option<&'a [u8]> {
+    ledger.get(string_span(row)?)
+}
+
+/// Where a row's string stands, without its quotes.
+pub fn string_span(row: &Row) -> Option<Range<usize>> {
     match row.kind {
-        Kind::Payee | Kind::Narration | Kind::Booking | Kind::String => Some(row.text(ledger)),
-        Kind::MetadataString => row.metadata(ledger),
+        Kind::Payee | Kind::Narration | Kind::Booking | Kind::String => {
+            Some(row.start as usize..row.end as usize)
+        }
+        Kind::MetadataString => Some(row.p as usize..row.q as usize),
         _ => None,
     }
 }

@@ -14,6 +14,7 @@ pub fn of(topic: Option<Verb>) -> &'static str {
         Some(Verb::Packet) => PACKET,
         Some(Verb::Edit) => EDIT,
         Some(Verb::Totals) => TOTALS,
+        Some(Verb::Format) => FORMAT,
     }
 }
 
@@ -30,6 +31,7 @@ Usage:
                                 replace one block of a ledger, and say how it reads then
   lumbrisse totals FILE.. 2024-03
                                 add up a month by account and currency
+  lumbrisse format FILE         write a ledger afresh, in one layout; --check and --in-place take several
   lumbrisse help COMMAND        more on a command
 
 A FILE, NEW or EXPRESSION of - is standard input, and so is the OUT of packet --read.
@@ -45,6 +47,8 @@ Options:
   --recover   packet: the rows of recovering reading
   --output OUT, --in-place
               edit: where the new ledger goes
+  --check     format: name the files that would change, and write nothing
+  --in-place  format: replace each file that changes, and keep what it was as FILE.bak
   -h, --help  this text; after a command, more on it
   -V, --version
 
@@ -56,10 +60,11 @@ Start here:
                                                   a line that would be lost in silence
   lumbrisse totals examples/totals.beancount 2024-03 --meter Meters:Reference
                                                   a month beside the reference meter
+  lumbrisse format examples/ragged.beancount      a ragged ledger in one layout
 
 Exit status:
   0  accepted
-  1  refused, or a block of it refused
+  1  refused, or a block of it refused; or format --check has named a file
   2  wrong words, a file that cannot be read or written, or a packet that would go to a terminal
 ";
 
@@ -245,4 +250,46 @@ The exit status is 0 where all files were added up, also where the month has no 
 differs; 1 where one was refused; 2 where one cannot be read, or the words are wrong. The largest counts.
 
   lumbrisse totals examples/totals.beancount 2024-03 --meter Meters:Reference
+";
+
+const FORMAT: &str = "\
+lumbrisse format FILE
+lumbrisse format --check FILE..
+lumbrisse format --in-place FILE..
+
+Writes a ledger afresh, in one layout: parts a space apart, postings and metadata behind two spaces, each
+cost, price and list of currencies in one form. What it says stays the same: reading the new text gives
+the same entries, dates, values, names and strings in the same order, and formatting it again changes
+nothing. That is proved, for every file that is not left alone (below).
+
+Without an option the new text goes to standard output, and nothing else does.
+  --check     writes nothing: prints the names of the files that would change, one to a line
+  --in-place  replaces each file that changes, by a new file that is renamed, so that no half of one is
+              ever seen. What it was before is kept as FILE.bak (or .bak2 and so on), as by edit. Other
+              files are not touched.
+
+What changes beside blanks:
+  comments and empty lines inside an entry are DROPPED: behind its parts, between its lines, and below it.
+    Those below a dated entry belong to it up to the next line that is neither empty nor a comment, also
+    where they are not indented. How many comments go is said on standard error
+  expressions become their values: 1,200.50/2 is written 600.25, and 100/3 as 33.333333; numbers have no
+    commas, and no zeros at the end
+  a cost has its amount first: {2024-05-01,3 EUR} is written {3 EUR, 2024-05-01}
+  lines of entries that end in CR LF end in a line feed, and so does a last one without
+
+What stays byte by byte: strings, also over several lines; lines that no entry reads, which are comments
+and empty lines above the first dated entry, below option, include, pushtag and poptag, and below one
+another, headings, and whatever else; and what stands behind the tag of a pushtag or poptag.
+What must not be lost can be metadata: note: \"read twice\"
+
+A file is left alone, named on standard error, and the exit status is 1, where
+  it is refused, as `lumbrisse read` refuses it
+  a line that no entry reads holds a quote: a comment above the first entry, plugin \"..\", an entry with a
+    date of another form. Nothing is promised of reading such a file again
+  it would be longer than 16,777,216 bytes, and not be read again
+
+The exit status is 0 where all went well; 1 where a file is left alone, or --check has named one; 2 where
+a file cannot be read or written, or the words are wrong. The largest counts.
+
+  lumbrisse format FILE | diff FILE -       what would change, and nothing written
 ";

@@ -5,6 +5,7 @@ use std::io::{self, Write};
 use lumbrisse::{Evaluated, Kind, Millionths, Refusal, Row, Short};
 
 use super::fraction::Fraction;
+use super::lost::Lost;
 use super::paint::Paint;
 use super::place::{self, Known, Place};
 use super::source::Source;
@@ -98,6 +99,35 @@ pub fn unedited(
     let number = paint.red(&format!("refusal {}", refusal.number));
     writeln!(out, "{name}: {number}: {why}")?;
     note(out, "nothing was written")
+}
+
+/// A ledger that is left as it is, as a blank entry holds a quote: where that stands, and why.
+pub fn unformatted(
+    out: &mut impl Write,
+    paint: Paint,
+    source: &Source,
+    row: &Row,
+    quote: usize,
+) -> io::Result<()> {
+    let at = place::of(&source.bytes, Known::of(row), quote);
+    let place = paint.bold(&format!("{}:{}:{}", source.name, at.line, at.column));
+    let verdict = paint.red("not formatted");
+    writeln!(
+        out,
+        "{place}: {verdict}: this line holds a quote, and no entry reads it"
+    )?;
+    marked(out, paint, source, &at, quote)?;
+    note(
+        out,
+        "with such a line nothing is promised of the new text: the quote may open or close a string in it",
+    )?;
+    if Lost::of(row.text(&source.bytes)).is_some() {
+        note(
+            out,
+            "it starts like an entry or a posting: see read --strict",
+        )?;
+    }
+    Ok(())
 }
 
 /// Where a refusal is, its number and its meaning.

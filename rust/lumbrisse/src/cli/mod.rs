@@ -5,10 +5,14 @@ mod asked;
 mod change;
 mod csv;
 mod decimal;
+mod destination;
+mod dropped;
 mod edit;
 mod exact;
 mod figures;
 mod folded;
+mod format;
+mod formatting;
 mod fraction;
 mod help;
 mod hint;
@@ -29,6 +33,7 @@ mod store;
 mod sum;
 mod summary;
 mod totals;
+mod words;
 
 use std::ffi::OsString;
 use std::io::{self, BufWriter, ErrorKind, IsTerminal, Write};
@@ -45,7 +50,7 @@ use source::Source;
 enum Status {
     /// All was accepted.
     Accepted = 0,
-    /// The call, or a block of the ledger, was refused.
+    /// The call, or a block of the ledger, was refused; or a file is not as it would be written afresh.
     Refused = 1,
     /// The words were wrong, or a file could not be read or written.
     Trouble = 2,
@@ -56,6 +61,7 @@ pub fn run(words: impl Iterator<Item = OsString>) -> ExitCode {
     let status = match args::parse(words) {
         Ok(Request::Run(job)) => run_job(&job),
         Ok(Request::Totals(asked)) => totals::totals(&asked),
+        Ok(Request::Format(formatting)) => format::format(&formatting),
         Ok(Request::Help(topic)) => said(help::of(topic)),
         Ok(Request::Version) => said(help::VERSION),
         Err(usage) => {
@@ -76,6 +82,11 @@ fn said(text: &str) -> Status {
 /// A line to standard error. There is nobody left to tell where that fails.
 fn complain(text: &str) {
     let _ = writeln!(io::stderr(), "lumbrisse: {text}");
+}
+
+/// A line about a file, or a line of it, to standard error.
+fn tell(name: &str, said: &str) {
+    let _ = writeln!(io::stderr(), "{}: {said}", Paint::stderr().bold(name));
 }
 
 /// The status of a run whose answer was, or could not be, written. A reader that went away has seen enough.

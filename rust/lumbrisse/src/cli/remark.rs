@@ -1,13 +1,11 @@
-//! What a person should look at in a ledger that was accepted, or in what of it was kept: at most two lines on standard
-//! error.
-
-use std::io::{self, Write};
+//! What a person should look at in a ledger that was accepted, in what of it was kept, or in it written afresh: at most
+//! two lines on standard error.
 
 use lumbrisse::Refusal;
 
+use super::dropped;
 use super::folded::{self, Folded, Like};
 use super::lost;
-use super::paint::Paint;
 use super::source::Source;
 
 /// How many of something there are, and the line of the first.
@@ -50,9 +48,15 @@ pub fn folded(source: &Source, table: &[u8]) {
     }
 }
 
+/// Says how many comments a ledger written afresh does not have.
+pub fn dropped(source: &Source, table: &[u8]) {
+    if let Some((line, said)) = uncommented(&source.bytes, table) {
+        tell(source, line, &said);
+    }
+}
+
 fn tell(source: &Source, line: usize, said: &str) {
-    let place = Paint::stderr().bold(&format!("{}:{line}", source.name));
-    let _ = writeln!(io::stderr(), "{place}: {said}");
+    super::tell(&format!("{}:{line}", source.name), said);
 }
 
 /// The first line with what strict reading would refuse, and how much of it there is.
@@ -101,6 +105,19 @@ fn swallowed(ledger: &[u8], table: &[u8]) -> Option<(usize, String)> {
     Some((line, said))
 }
 
+/// The first line with a comment inside an entry, and how many there are.
+fn uncommented(ledger: &[u8], table: &[u8]) -> Option<(usize, String)> {
+    let mut comments = Found::default();
+    for line in dropped::lines(ledger, table) {
+        comments.add(line);
+    }
+    let said = comments.said(
+        "comment inside an entry is dropped",
+        "comments inside entries are dropped",
+    )?;
+    Some((comments.first, said))
+}
+
 #[cfg(test)]
 mod tests {
     use super::*;
@@ -144,6 +161,23 @@ mod tests {
             ),
         ] {
             assert_eq!(said(silent, ledger).as_deref(), expected);
+        }
+    }
+
+    #[test]
+    fn dropped_comments_are_counted() {
+        for (ledger, expected) in [
+            (&b"; a\n2024-01-31 *\n  A:B\n"[..], None),
+            (
+                b"\n2024-01-31 * ; a\n",
+                Some("2: 1 comment inside an entry is dropped (line 2)"),
+            ),
+            (
+                b"2024-01-31 *\n  ; a\n  A:B\n; b\n",
+                Some("2: 2 comments inside entries are dropped (line 2 is the first)"),
+            ),
+        ] {
+            assert_eq!(said(uncommented, ledger).as_deref(), expected);
         }
     }
 

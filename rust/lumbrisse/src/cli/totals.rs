@@ -9,7 +9,7 @@ use super::asked::{Asked, Month, Shape};
 use super::figures::{Figures, Held};
 use super::paint::Paint;
 use super::source::{self, Source};
-use super::{complain, csv, ended, human, json, refused, remark, shown, statement, Status};
+use super::{complain, csv, ended, human, json, refused, remark, shown, statement, tell, Status};
 
 /// A file's month.
 pub struct Listed<'a> {
@@ -158,8 +158,7 @@ fn file(
 /// Says that there is nothing to hold against the others: a list of fields has no place for that.
 fn tell_no_meter(listed: &Listed) {
     if let Some(text) = listed.no_meter() {
-        let name = Paint::stderr().bold(&listed.source.name);
-        let _ = writeln!(io::stderr(), "{name}: {text}");
+        tell(&listed.source.name, &text);
     }
 }
 
