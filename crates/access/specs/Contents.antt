@@ -1,5 +1,6 @@
 -- String content without its escapes. Content is valid if rule 5, given it between quotes, reads all of it.
 use Prim.Native.Nat.{ℕ, _+_}
+use Prim.Native.Char.{code}
 use mathlib.Core.Bool.{Bool, true, false, cond}
 use mathlib.Core.List.{List, [], _∷_, _++_}
 use lib.Dec.{eqb, leb}
@@ -14,13 +15,13 @@ endsAt n (Read.To j) = eqb j n
 endsAt n Read.Miss = false
 
 unfoldable pub valid : List ℕ → Bool
-valid c = endsAt (length c + 2) (stringAt (34 ∷ (c ++ (34 ∷ []))) 0)
+valid c = endsAt (length c + 2) (stringAt (code "\"" ∷ (c ++ (code "\"" ∷ []))) 0)
 
 -- each byte but an escape's backslash
 unfoldable mutual
   pub unescaped : List ℕ → List ℕ
   unescaped [] = []
-  unescaped (b ∷ c) = cond (eqb b 92) (escapedByte c) (b ∷ unescaped c)
+  unescaped (b ∷ c) = cond (eqb b (code "\\")) (escapedByte c) (b ∷ unescaped c)
 
   pub escapedByte : List ℕ → List ℕ
   escapedByte [] = []

@@ -9,6 +9,7 @@ use Rattle.row.specs.Field.{fieldAt}
 use Rattle.access.specs.declared.tables.Force.{Force}
 use Rattle.access.specs.declared.tables.Found.{Found}
 use Rattle.access.specs.Spans.{goodSpan, spanText}
+use Rattle.amount.specs.Kinds.{pushtagKind, poptagKind, tagKind}
 
 -- the row with a number: each field from its bytes
 unfoldable pub rowAt : List ℕ → ℕ → Row
@@ -39,7 +40,7 @@ unfoldable pub names : List ℕ → List ℕ → List ℕ → ℕ → Bool
 names s t tag j =
     let k = rowAt t j .kind in
     let next = rowAt t (j + 1) in
-    (eqb k 4 || eqb k 5) && (eqb (next .kind) 23 && (goodSpan s (next .start) (next .end) && same (spanText s (next .start) (next .end)) tag))
+    (eqb k pushtagKind || eqb k poptagKind) && (eqb (next .kind) tagKind && (goodSpan s (next .start) (next .end) && same (spanText s (next .start) (next .end)) tag))
 
 -- the kind of the last of the first n rows that does, or 0
 unfoldable pub lastNamed : List ℕ → List ℕ → List ℕ → ℕ → ℕ
@@ -48,4 +49,4 @@ lastNamed s t tag (suc n) = cond (names s t tag n) (rowAt t n .kind) (lastNamed 
 
 -- after the first k rows: yes if the last of the rows that do, whose next row is also among the k, is a 4; k over the room is 10
 unfoldable pub inForce : List ℕ → List ℕ → ℕ → List ℕ → Force
-inForce s t k tag = cond (leb k (length t / 32)) (cond (eqb (lastNamed s t tag (k - 1)) 4) Force.Yes Force.Not) (Force.Refusal 10)
+inForce s t k tag = cond (leb k (length t / 32)) (cond (eqb (lastNamed s t tag (k - 1)) pushtagKind) Force.Yes Force.Not) (Force.Refusal 10)

@@ -1,5 +1,6 @@
 // Rows of a table: one by its number, and whether a tag is in force.
 use crate::span;
+use amount::kind;
 use row::table;
 use row::table::Row;
 ghost use mathlib.Core.Path.{_≡_};
@@ -69,9 +70,9 @@ fn is_named(ledger: &[u8], t: &[u8], j: usize, tag: &[u8]) -> bool
 {
     let this = row_of(t, j);
     let kind = this.kind;
-    if (kind == 4) | (kind == 5) {
+    if (kind == kind::PUSHTAG) | (kind == kind::POPTAG) {
         let next = row_of(t, j + 1);
-        if next.kind == 23 {
+        if next.kind == kind::TAG {
             let start = next.start;
             let end = next.end;
             if span::is_good(ledger, start, end) {
@@ -108,7 +109,7 @@ pub fn tag_in_force(ledger: &[u8], t: &[u8], k: usize, tag: &[u8]) -> Force
     if t.len() / 32 < k {
         return Force::Refusal(10);
     }
-    if last_named(ledger, t, k - 1, tag) == 4 {
+    if last_named(ledger, t, k - 1, tag) == kind::PUSHTAG {
         Force::Yes
     } else {
         Force::Not

@@ -3,6 +3,7 @@ use Prim.Native.Nat.{ℕ}
 use mathlib.Core.List.{List, [], _∷_}
 use Rattle.text.specs.Answer.{Ans, To, Miss, Hard, _then_, _and_, must}
 use Rattle.text.specs.Leaves.{gap, currency}
+use Rattle.amount.specs.Kinds.{amountKind, currencyKind}
 use Rattle.amount.specs.Details.{Rows, span, valued}
 use Rattle.amount.specs.Expression.{expression}
 
@@ -14,7 +15,7 @@ unfoldable pub hardGap : List ℕ → ℕ → Rows
 hardGap s at = must at (gap s at)
 
 unfoldable pub hardCurrency : List ℕ → ℕ → Rows
-hardCurrency s at = must at (currency s at) and λ e. To e (span 31 at e ∷ [])
+hardCurrency s at = must at (currency s at) and λ e. To e (span currencyKind at e ∷ [])
 
 -- an amount each part of which is required
 unfoldable pub hardAmount : ℕ → List ℕ → ℕ → Rows
@@ -23,4 +24,4 @@ hardAmount k s at =
 
 -- Price: currency, gap, amount.
 unfoldable pub priceOf : List ℕ → ℕ → Rows
-priceOf s at = hardCurrency s at and λ e. hardGap s e and λ g. hardAmount 26 s g
+priceOf s at = hardCurrency s at and λ e. hardGap s e and λ g. hardAmount amountKind s g

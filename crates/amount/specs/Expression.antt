@@ -2,6 +2,7 @@
 -- operators. Atom: literal or group. Group: `(`, blanks, expression, blanks, `)`. An expression may hold a group and a group holds an
 -- expression. A reading gives its end with its value or the value's refusal.
 use Prim.Native.Nat.{ℕ, zero, suc, _+_}
+use Prim.Native.Char.{code}
 use mathlib.Core.Bool.{Bool, true, false, cond, _||_}
 use mathlib.Core.List.{List}
 use lib.Dec.{eqb}
@@ -29,7 +30,7 @@ negatedValue (Refused n) = Refused n
 -- by the operator's byte: + - * /
 unfoldable pub operated : Form → ℕ → Decimal → Decimal → Value
 operated form op a b =
-    cond (eqb op 43) (sum a b) (cond (eqb op 45) (difference a b) (cond (eqb op 42) (product form a b) (quotient form a b)))
+    cond (eqb op (code "+")) (sum a b) (cond (eqb op (code "-")) (difference a b) (cond (eqb op (code "*")) (product form a b) (quotient form a b)))
 
 -- an arithmetic: what an operator's byte makes of two operands
 abbrev pub Arithmetic : Type 0
@@ -43,10 +44,10 @@ combined form op (Known a) (Known b) = operated form op a b
 -- ---- the rule, in an arithmetic calc, which no place depends on (`Agreement.antt`); g reads a group at a place
 
 unfoldable pub isPlus : ℕ → Bool
-isPlus b = eqb b 43 || eqb b 45
+isPlus b = eqb b (code "+") || eqb b (code "-")
 
 unfoldable pub isTimes : ℕ → Bool
-isTimes b = eqb b 42 || eqb b 47
+isTimes b = eqb b (code "*") || eqb b (code "/")
 
 -- operators and operands x that go on from the value v, which ends at e: at most k of them. Where an operand misses, the reading ends
 -- before its operator.
@@ -62,7 +63,10 @@ unfoldable pub chain : Arithmetic → (ℕ → Bool) → (ℕ → Ans Value) →
 chain calc op x s at = x at then λ e v. goesOn calc op x s (length s) v e
 
 unfoldable pub atom : (ℕ → Ans Value) → List ℕ → ℕ → Ans Value
-atom g s at = let group = g at in literal s at else group
+atom g s at =
+    let number = literal s at in
+    let group = g at in
+    number else group
 
 unfoldable pub products : Arithmetic → (ℕ → Ans Value) → List ℕ → ℕ → Ans Value
 products calc g s at = chain calc isTimes (atom g s) s at
@@ -73,21 +77,24 @@ sums calc g s at = chain calc isPlus (products calc g s) s at
 unfoldable pub negation : (ℕ → Ans Value) → List ℕ → ℕ → Ans Value
 negation g s at =
     let group = g (blanks s (at + 1)) then λ e v. To e (negatedValue v) in
-    cond (eqb (getD s at 0) 45) group Miss
+    cond (eqb (getD s at 0) (code "-")) group Miss
 
 unfoldable pub inGroup : Arithmetic → (ℕ → Ans Value) → List ℕ → ℕ → Ans Value
-inGroup calc g s at = let other = sums calc g s at in negation g s at else other
+inGroup calc g s at =
+    let negative = negation g s at in
+    let summed = sums calc g s at in
+    negative else summed
 
 -- blanks and `)` after a group's expression
 unfoldable pub closed : List ℕ → ℕ → Value → Ans Value
-closed s e v = cond (eqb (getD s (blanks s e) 0) 41) (To (blanks s e + 1) v) Miss
+closed s e v = cond (eqb (getD s (blanks s e) 0) (code ")")) (To (blanks s e + 1) v) Miss
 
 -- a group where n more may open: refusal 3 at its `(` where none may
 unfoldable pub group : Arithmetic → ℕ → List ℕ → ℕ → Ans Value
-group calc zero s at = cond (eqb (getD s at 0) 40) (Hard 3 at) Miss
+group calc zero s at = cond (eqb (getD s at 0) (code "(")) (Hard 3 at) Miss
 group calc (suc n) s at =
     let inner = inGroup calc (group calc n s) s (blanks s (at + 1)) then closed s in
-    cond (eqb (getD s at 0) 40) inner Miss
+    cond (eqb (getD s at 0) (code "(")) inner Miss
 
 -- an expression where n groups may open one in another
 unfoldable pub within : Arithmetic → ℕ → List ℕ → ℕ → Ans Value

@@ -1,6 +1,7 @@
 -- Rule 9. Literal: optional `-`, blanks, longest run of digits, `.`, `,`. With spaces and commas dropped it must be an optional `-`, digits,
 -- at most one `.`, at least one digit. A tab stays, so it misses.
 use Prim.Native.Nat.{ℕ, suc, _+_, _-_, _*_, _^_}
+use Prim.Native.Char.{code}
 use mathlib.Core.Bool.{Bool, true, false, cond, _&&_, _||_}
 use mathlib.Core.List.{List, [], _∷_}
 use lib.Dec.{leb, eqb}
@@ -13,7 +14,7 @@ use Rattle.text.specs.Answer.{Ans, To, Miss}
 
 -- a digit, `.` or `,`
 unfoldable pub inLiteral : ℕ → Bool
-inLiteral b = isDigit b || eqb b 46 || eqb b 44
+inLiteral b = isDigit b || eqb b (code ".") || eqb b (code ",")
 
 -- how many bytes are such
 unfoldable pub count : (ℕ → Bool) → List ℕ → ℕ
@@ -21,12 +22,12 @@ count p [] = 0
 count p (b ∷ s) = cond (p b) (suc (count p s)) (count p s)
 
 abbrev pub isPoint : ℕ → Bool
-isPoint b = eqb b 46
+isPoint b = eqb b (code ".")
 
 -- the number that the digits write, going on from n
 unfoldable pub number : ℕ → List ℕ → ℕ
 number n [] = n
-number n (b ∷ s) = number (cond (isDigit b) (n * 10 + (b - 48)) n) s
+number n (b ∷ s) = number (cond (isDigit b) (n * 10 + (b - code "0")) n) s
 
 -- how many digits stand after the `.`
 unfoldable pub places : List ℕ → ℕ
@@ -56,4 +57,4 @@ unfoldable pub literal : List ℕ → ℕ → Ans Value
 literal s at =
     let below = unsigned true s (at + 1) in
     let above = unsigned false s at in
-    cond (eqb (getD s at 0) 45) below above
+    cond (eqb (getD s at 0) (code "-")) below above

@@ -3,6 +3,7 @@ use crate::detail::Detail;
 use crate::detail::One;
 use crate::expression;
 use crate::expression::Answer;
+use crate::kind;
 use decimal::Decimal;
 use decimal::Value;
 use text::Read;
@@ -77,11 +78,11 @@ fn priced_from(s: &[u8], at: usize, e: usize) -> Priced
     let g = line::gap(s, e);
     match g {
         Read::To(j) => {
-            let a = required_amount(s, j, 26);
+            let a = required_amount(s, j, kind::AMOUNT);
             match a {
                 One::Read(f, d) => {
                     let unit = Detail {
-                        kind: 31,
+                        kind: kind::CURRENCY,
                         start: at,
                         end: e,
                         p: 0,

@@ -63,3 +63,6 @@ pub const STRING_META: usize = 35;
 pub const NUMBER_META: usize = 36;
 
 pub const CURRENCY_META: usize = 37;
+
+// A block that recovering reading refuses.
+pub const REFUSAL: usize = 90;

@@ -12,7 +12,8 @@ use Rattle.text.proofs.TestLaws.{and-left}
 use Rattle.row.specs.Field.{fieldAt}
 use Rattle.bus.specs.declared.packet.Found.{Found}
 use Rattle.bus.specs.Refusals.{cutShort, wrongField}
-use Rattle.bus.specs.Fields.{firstDetail, isEntry, rowTag, stated, whole, rowField, entryTag, detailTag, textTag, headWidth}
+use Rattle.amount.specs.Kinds.{firstDetail}
+use Rattle.bus.specs.Fields.{isEntry, rowTag, stated, whole, rowField, entryTag, detailTag, textTag, headWidth}
 use Rattle.bus.specs.Reading.{fieldFault, isRow, textFound, found}
 use Rattle.row.specs.Row.{width}
 use Rattle.bus.proofs.FieldLaws.{whole-in}

@@ -13,7 +13,8 @@ use Rattle.row.proofs.FieldLaws.{sets-append}
 use Rattle.access.specs.Spans.{goodSpan, spanText}
 use Rattle.bus.specs.declared.writer.Measured.{Measured}
 use Rattle.bus.specs.Refusals.{notValid, tooLong}
-use Rattle.bus.specs.Fields.{firstDetail, field, isEntry, rowField, textPlace, longest, entryTag, detailTag, textTag, headWidth}
+use Rattle.amount.specs.Kinds.{firstDetail}
+use Rattle.bus.specs.Fields.{field, isEntry, rowField, textPlace, longest, entryTag, detailTag, textTag, headWidth}
 use Rattle.bus.specs.Writing.{rowOf, textOf, fault, rowFields}
 use Rattle.bus.specs.steps.Measuring.{measuredBy, rowMeasured}
 use Rattle.bus.specs.steps.Putting.{RowFits}

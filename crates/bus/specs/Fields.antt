@@ -4,6 +4,7 @@ use mathlib.Core.Bool.{Bool, cond, _&&_}
 use mathlib.Core.List.{List, [], _∷_, _++_}
 use lib.Dec.{ltb, leb}
 use lib.ListN.{length, getD}
+use Rattle.amount.specs.Kinds.{firstDetail}
 use Rattle.row.specs.Row.{width}
 use Rattle.bus.specs.Orders.{Order, bytesIn, numberIn}
 
@@ -16,9 +17,6 @@ detailTag = 2
 
 abbrev pub textTag : ℕ
 textTag = 3
-
-abbrev pub firstDetail : ℕ
-firstDetail = 20
 
 unfoldable pub isEntry : ℕ → Bool
 isEntry kind = ltb kind firstDetail

@@ -15,9 +15,6 @@ pub const DETAIL: u8 = 2;
 
 pub const TEXT: u8 = 3;
 
-// Kinds from here on are details.
-pub const FIRST_DETAIL: usize = 20;
-
 // What stands before the content.
 pub const HEAD: usize = 3;
 

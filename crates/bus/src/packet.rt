@@ -1,5 +1,6 @@
 // What stands at a place of a packet, and what is handed out of it.
 use crate::field;
+use amount::kind;
 use row::table;
 use text::bytes;
 ghost use mathlib.Core.Path.{_≡_};
@@ -47,7 +48,7 @@ fn field_fault(whole: bool, due: bool) -> usize
 fn row_tag(kind: usize) -> usize
     ensures { λ r. ⌜ r ≡ rowTag kind ⌝ }
 {
-    if kind < field::FIRST_DETAIL {
+    if kind < kind::FIRST_DETAIL {
         bytes::wide(field::ENTRY)
     } else {
         bytes::wide(field::DETAIL)
@@ -84,7 +85,7 @@ fn find(r: &[u8]) -> Found
     }
     let bad = field_fault(field::is_whole(r), is_row(r));
     if bad == 0 {
-        if table::field_at(r, field::HEAD, 4) < field::FIRST_DETAIL {
+        if table::field_at(r, field::HEAD, 4) < kind::FIRST_DETAIL {
             return Found::Entry;
         }
         return find_text(&r[field::ROW_FIELD..]);

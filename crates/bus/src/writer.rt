@@ -3,6 +3,7 @@ use crate::field;
 use access::span;
 use access::tables;
 use access::written::Written;
+use amount::kind;
 use row::table;
 ghost use mathlib.Core.Path.{_≡_};
 ghost use Prim.Native.Nat.{_+_, _*_, _≤_, min};
@@ -31,7 +32,7 @@ fn measure_row(ledger: &[u8], u: &[u8]) -> Measured
     ensures { λ r. ⌜ r ≡ rowMeasured (now (ledger .entry)) (now (u .entry)) ⌝ }
 {
     let r = tables::row_of(u, 0);
-    if r.kind < field::FIRST_DETAIL {
+    if r.kind < kind::FIRST_DETAIL {
         return Measured::Bytes(field::ROW_FIELD);
     }
     let start = r.start;
@@ -54,7 +55,7 @@ fn put_row(ledger: &[u8], u: &[u8], buffer: &mut [u8], at: usize) -> usize
 {
     let front = tables::row_of(u, 0);
     let row = &u[0..table::WIDTH];
-    if front.kind < field::FIRST_DETAIL {
+    if front.kind < kind::FIRST_DETAIL {
         return field::put_field(field::ENTRY, row, buffer, at);
     }
     let text = span::text_of(ledger, front.start, front.end);

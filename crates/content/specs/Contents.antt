@@ -1,10 +1,12 @@
 -- Rule 10: the contents of directives, each part of which is hard.
 use Prim.Native.Nat.{ℕ, suc}
+use Prim.Native.Char.{code}
 use mathlib.Core.List.{List, [], _∷_}
 use lib.ListN.{length}
 use Rattle.text.specs.Run.{blanks}
 use Rattle.text.specs.Answer.{To, _then_, _and_, must, maybe, many}
 use Rattle.text.specs.Leaves.{gap, account, currency, byte}
+use Rattle.amount.specs.Kinds.{accountKind, amountKind, toleranceKind, currencyKind, bookingKind, stringKind}
 use Rattle.amount.specs.Details.{Rows, span, valued}
 use Rattle.amount.specs.Expression.{expression}
 use Rattle.amount.specs.Amounts.{hardGap}
@@ -12,24 +14,24 @@ use Rattle.posting.specs.Costs.{comma}
 use Rattle.posting.specs.Metadata.{quoted}
 
 unfoldable pub hardAccount : List ℕ → ℕ → Rows
-hardAccount s at = must at (account s at) and λ e. To e (span 25 at e ∷ [])
+hardAccount s at = must at (account s at) and λ e. To e (span accountKind at e ∷ [])
 
 unfoldable pub hardString : List ℕ → ℕ → Rows
-hardString s at = must at (quoted (span 34) s at)
+hardString s at = must at (quoted (span stringKind) s at)
 
 -- blanks `~` blanks expression
 unfoldable pub tolerance : List ℕ → ℕ → Rows
-tolerance s at = byte 126 s (blanks s at) and λ i. let b = blanks s i in expression s b then λ e v. To e (valued 27 b e 0 0 v ∷ [])
+tolerance s at = byte (code "~") s (blanks s at) and λ i. let b = blanks s i in expression s b then λ e v. To e (valued toleranceKind b e 0 0 v ∷ [])
 
 -- Balance: account, gap, expression, optionally a tolerance, gap, currency. The amount names that currency.
 unfoldable pub balanceOf : List ℕ → ℕ → Rows
 balanceOf s at =
     hardAccount s at and λ a. hardGap s a and λ g. must g (expression s g) then λ e v. maybe e (tolerance s e) then λ t ts.
-    hardGap s t and λ c. must c (currency s c) and λ d. To d (valued 26 g e c d v ∷ ts)
+    hardGap s t and λ c. must c (currency s c) and λ d. To d (valued amountKind g e c d v ∷ ts)
 
 -- currencies joined by commas with blanks around
 unfoldable pub oneCurrency : List ℕ → ℕ → Rows
-oneCurrency s at = currency s at and λ e. To e (span 31 at e ∷ [])
+oneCurrency s at = currency s at and λ e. To e (span currencyKind at e ∷ [])
 
 unfoldable pub further : List ℕ → ℕ → Rows
 further s at = comma s at and λ j. oneCurrency s j
@@ -38,7 +40,7 @@ unfoldable pub currencies : List ℕ → ℕ → Rows
 currencies s at = oneCurrency s at and λ e. many (further s) (suc (length s)) e
 
 unfoldable pub booking : List ℕ → ℕ → Rows
-booking s at = gap s at and λ g. quoted (span 32) s g
+booking s at = gap s at and λ g. quoted (span bookingKind) s g
 
 -- Open: account, optionally gap and currencies, optionally gap and string.
 unfoldable pub openOf : List ℕ → ℕ → Rows

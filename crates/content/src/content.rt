@@ -7,6 +7,7 @@ use amount::detail::Detail;
 use amount::detail::One;
 use amount::expression;
 use amount::expression::Answer;
+use amount::kind;
 use decimal::Value;
 use row::writer;
 use row::writer::Out;
@@ -35,7 +36,7 @@ pub fn required_account(s: &[u8], at: usize, base: usize, table: &mut [u8], out:
     let a = account::account(s, at);
     match a {
         AccountRead::To(e) => {
-            let o = writer::emit(table, base, out, detail::named(25, at, e, 0, 0));
+            let o = writer::emit(table, base, out, detail::named(kind::ACCOUNT, at, e, 0, 0));
             Ran::To(e, o)
         }
         AccountRead::Miss => Ran::Hard(4, at),
@@ -50,7 +51,7 @@ fn required_currency(s: &[u8], at: usize, base: usize, table: &mut [u8], out: Ou
     let u = currency::currency(s, at);
     match u {
         Read::To(e) => {
-            let o = writer::emit(table, base, out, detail::named(31, at, e, 0, 0));
+            let o = writer::emit(table, base, out, detail::named(kind::CURRENCY, at, e, 0, 0));
             Ran::To(e, o)
         }
         Read::Miss => Ran::Hard(4, at),
@@ -64,7 +65,12 @@ pub fn required_string(s: &[u8], at: usize, base: usize, table: &mut [u8], out: 
     let x = string::string(s, at);
     match x {
         Read::To(e) => {
-            let o = writer::emit(table, base, out, detail::named(34, at + 1, e - 1, 0, 0));
+            let o = writer::emit(
+                table,
+                base,
+                out,
+                detail::named(kind::STRING, at + 1, e - 1, 0, 0),
+            );
             Ran::To(e, o)
         }
         Read::Miss => Ran::Hard(4, at),
@@ -159,7 +165,7 @@ fn tolerance_read(s: &[u8], at: usize, i: usize) -> One
         Answer::Read(e, v) => One::Read(
             e,
             Detail {
-                kind: 27,
+                kind: kind::TOLERANCE,
                 start: i,
                 end: e,
                 p: 0,
@@ -194,7 +200,7 @@ fn balance_end(
             match u {
                 Read::To(d) => {
                     let a = Detail {
-                        kind: 26,
+                        kind: kind::AMOUNT,
                         start: g,
                         end: e,
                         p: c,
@@ -260,22 +266,22 @@ pub fn content_at(s: &[u8], at: usize, kind: usize, base: usize, table: &mut [u8
     requires { ⌜ (base ≤ 16777216) × (length (now s) ≤ 16777216) × (at ≤ length (now s)) × (out .rows ≤ at) ⌝ }
     ensures { λ r. ⌜ Did base (contentOf kind (now (s .entry)) at) out (now (table .entry)) (now (table .exit)) r ⌝ }
 {
-    if kind == 7 {
+    if kind == kind::PRICE {
         return price_content(s, at, base, table, out);
     }
-    if kind == 8 {
+    if kind == kind::BALANCE {
         return balance_at(s, at, base, table, out);
     }
-    if kind == 9 {
+    if kind == kind::OPEN {
         return open::open_at(s, at, base, table, out);
     }
-    if kind == 10 {
+    if kind == kind::CLOSE {
         return required_account(s, at, base, table, out);
     }
-    if kind == 11 {
+    if kind == kind::PAD {
         return pad_at(s, at, base, table, out);
     }
-    if kind == 12 {
+    if kind == kind::COMMODITY {
         return required_currency(s, at, base, table, out);
     }
     event_at(s, at, base, table, out)

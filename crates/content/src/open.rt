@@ -2,6 +2,7 @@
 use crate::content;
 use amount::detail;
 use amount::detail::One;
+use amount::kind;
 use posting::cost;
 use row::writer;
 use row::writer::Out;
@@ -23,7 +24,7 @@ fn one_currency(s: &[u8], at: usize) -> One
 {
     let u = currency::currency(s, at);
     match u {
-        Read::To(e) => One::Read(e, detail::named(31, at, e, 0, 0)),
+        Read::To(e) => One::Read(e, detail::named(kind::CURRENCY, at, e, 0, 0)),
         Read::Miss => One::Miss,
     }
 }
@@ -96,7 +97,7 @@ fn gap_booking(s: &[u8], at: usize) -> One
         Read::To(j) => {
             let x = string::string(s, j);
             match x {
-                Read::To(e) => One::Read(e, detail::named(32, j + 1, e - 1, 0, 0)),
+                Read::To(e) => One::Read(e, detail::named(kind::BOOKING, j + 1, e - 1, 0, 0)),
                 Read::Miss => One::Miss,
             }
         }

@@ -12,6 +12,7 @@ use Rattle.row.specs.Strings.{cuts}
 use Rattle.ledger.specs.Plain.{Reading, accepted, denied, sizeLimit}
 use Rattle.recovery.specs.Recovering.{blockLength, recoverFrom}
 use Rattle.recovery.specs.Demand3.{startsTail, endsLine}
+use Rattle.amount.specs.Kinds.{refusalKind}
 
 -- ---- what is replaced, in the ledger s from a to e, and by what, the bytes y
 
@@ -51,7 +52,7 @@ shift d l r =
       end = moveOn d (r .end);
       line = moveOn l (r .line);
       p = cond (spanned (r .kind)) (moveOn d (r .p)) (r .p);
-      q = cond (spanned (r .kind) || eqb (r .kind) 90) (moveOn d (r .q)) (r .q);
+      q = cond (spanned (r .kind) || eqb (r .kind) refusalKind) (moveOn d (r .q)) (r .q);
       bits = r .bits;
     }
 

@@ -1,12 +1,15 @@
 // Rows that are moved, modulo 4,294,967,296.
+use amount::kind;
 use row::table;
 use row::table::Row;
 use row::table::WIDTH;
+use row::writer;
 ghost use mathlib.Core.Path.{_≡_};
 ghost use mathlib.Core.Bool.{cond, _||_};
 ghost use Prim.Native.Nat.{_*_, _+_, _≤_};
 ghost use lib.Dec.{eqb};
 ghost use lib.ListN.{length};
+ghost use Rattle.amount.specs.Kinds.{refusalKind};
 ghost use Rattle.row.specs.Row.{width};
 ghost use Rattle.row.specs.Details.{spanned};
 ghost use Rattle.edit.specs.Edits.{fieldLimit, moveOn};
@@ -14,9 +17,6 @@ ghost use Rattle.edit.specs.steps.Moving.{Small, shiftBy, movedIn};
 
 // A field's numbers are below it.
 pub const FIELD: usize = 4294967296;
-
-// The kind of a refusal row.
-const REFUSAL: usize = 90;
 
 // So many bytes and lines on.
 pub struct By {
@@ -35,18 +35,11 @@ fn move_if(asked: bool, d: usize, x: usize) -> usize
     x
 }
 
-// Kinds whose p and q are a span.
-fn is_spanned(kind: usize) -> bool
-    ensures { λ r. ⌜ r ≡ spanned kind ⌝ }
-{
-    (kind == 26) | (kind == 29) | (kind == 30) | (kind == 35) | (kind == 36) | (kind == 37)
-}
-
 // Kinds whose q is a place.
 fn moves_q(kind: usize) -> bool
-    ensures { λ r. ⌜ r ≡ (spanned kind || eqb kind 90) ⌝ }
+    ensures { λ r. ⌜ r ≡ (spanned kind || eqb kind refusalKind) ⌝ }
 {
-    is_spanned(kind) | (kind == REFUSAL)
+    writer::is_spanned(kind) | (kind == kind::REFUSAL)
 }
 
 pub fn shift_row(r: Row, b: By) -> Row
@@ -60,7 +53,7 @@ pub fn shift_row(r: Row, b: By) -> Row
         start: move_if(true, d, r.start),
         end: move_if(true, d, r.end),
         line: move_if(true, b.lines, r.line),
-        p: move_if(is_spanned(kind), d, r.p),
+        p: move_if(writer::is_spanned(kind), d, r.p),
         q: move_if(moves_q(kind), d, r.q),
         bits: r.bits,
     }

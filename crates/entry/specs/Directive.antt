@@ -5,6 +5,7 @@ use mathlib.Core.List.{List, [], _∷_}
 use Rattle.text.specs.Bytes.{bytes}
 use Rattle.text.specs.Answer.{To, _and_, must}
 use Rattle.text.specs.Leaves.{gap, word, tag, lineEnd}
+use Rattle.amount.specs.Kinds.{tagKind, stringKind}
 use Rattle.amount.specs.Details.{Rows, span}
 use Rattle.amount.specs.Amounts.{hardGap}
 use Rattle.posting.specs.Metadata.{quoted, metadata}
@@ -18,10 +19,10 @@ keyword w content s at = word (bytes w) s at and λ e. hardGap s e and λ g. con
 -- ---- Rules 14 and 15
 
 unfoldable pub option : List ℕ → ℕ → Rows
-option s at = word (bytes "option") s at and λ a. gap s a and λ b. quoted (span 34) s b and λ c. gap s c and λ d. quoted (span 34) s d and λ e. lineEnd s e
+option s at = word (bytes "option") s at and λ a. gap s a and λ b. quoted (span stringKind) s b and λ c. gap s c and λ d. quoted (span stringKind) s d and λ e. lineEnd s e
 
 unfoldable pub include : List ℕ → ℕ → Rows
 include s at = word (bytes "include") s at and λ a. hardGap s a and λ b. hardString s b and λ e. must e (lineEnd s e)
 
 unfoldable pub tagged : String → List ℕ → ℕ → Rows
-tagged w s at = word (bytes w) s at and λ a. gap s a and λ b. tag s b and λ e. To e (span 23 (b + 1) e ∷ [])
+tagged w s at = word (bytes w) s at and λ a. gap s a and λ b. tag s b and λ e. To e (span tagKind (b + 1) e ∷ [])

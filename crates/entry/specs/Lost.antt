@@ -7,6 +7,7 @@ use lib.ListN.{drop}
 use Rattle.text.specs.Bytes.{bytes}
 use Rattle.text.specs.Answer.{To, Miss, Hard, _then_, _and_}
 use Rattle.text.specs.Leaves.{date, word, lineEnd}
+use Rattle.amount.specs.Kinds.{firstDetail}
 use Rattle.amount.specs.declared.detail.Detail.{Detail}
 use Rattle.amount.specs.Details.{Rows}
 use Rattle.amount.specs.Amounts.{hardGap}
@@ -46,7 +47,7 @@ lostHeld t = readHeld t (lostEvent t)
 
 -- for a row of the text t: neither its own string, nor, where an entry starts, one of such an event line
 unfoldable pub fine : List ℕ → Row → Bool
-fine t r = not (ltb (r .kind) 20 && lostHeld (drop (r .start) t)) && not (held t (r .kind) (r .start) (r .end) (r .p) (r .q))
+fine t r = not (ltb (r .kind) firstDetail && lostHeld (drop (r .start) t)) && not (held t (r .kind) (r .start) (r .end) (r .p) (r .q))
 
 -- no string of these rows
 unfoldable pub whole : List ℕ → List Row → Bool

@@ -1,4 +1,5 @@
 // Directives (rule 4).
+use amount::kind;
 use posting::metadata;
 use row::writer::Out;
 use row::writer::Ran;
@@ -33,15 +34,15 @@ fn late_keyword(s: &[u8], at: usize) -> Keyword
 {
     let a = word::word(s, at, b"pad");
     match a {
-        Read::To(e) => Keyword::Read(11, e),
+        Read::To(e) => Keyword::Read(kind::PAD, e),
         Read::Miss => {
             let b = word::word(s, at, b"commodity");
             match b {
-                Read::To(e) => Keyword::Read(12, e),
+                Read::To(e) => Keyword::Read(kind::COMMODITY, e),
                 Read::Miss => {
                     let c = word::word(s, at, b"event");
                     match c {
-                        Read::To(e) => Keyword::Read(13, e),
+                        Read::To(e) => Keyword::Read(kind::EVENT, e),
                         Read::Miss => Keyword::Miss,
                     }
                 }
@@ -55,11 +56,11 @@ fn middle_keyword(s: &[u8], at: usize) -> Keyword
 {
     let a = word::word(s, at, b"open");
     match a {
-        Read::To(e) => Keyword::Read(9, e),
+        Read::To(e) => Keyword::Read(kind::OPEN, e),
         Read::Miss => {
             let b = word::word(s, at, b"close");
             match b {
-                Read::To(e) => Keyword::Read(10, e),
+                Read::To(e) => Keyword::Read(kind::CLOSE, e),
                 Read::Miss => late_keyword(s, at),
             }
         }
@@ -72,11 +73,11 @@ fn keyword_at(s: &[u8], at: usize) -> Keyword
 {
     let a = word::word(s, at, b"price");
     match a {
-        Read::To(e) => Keyword::Read(7, e),
+        Read::To(e) => Keyword::Read(kind::PRICE, e),
         Read::Miss => {
             let b = word::word(s, at, b"balance");
             match b {
-                Read::To(e) => Keyword::Read(8, e),
+                Read::To(e) => Keyword::Read(kind::BALANCE, e),
                 Read::Miss => middle_keyword(s, at),
             }
         }
@@ -146,7 +147,7 @@ fn dateless_at(s: &[u8], at: usize, date: usize, base: usize, table: &mut [u8], 
 {
     let t = transaction::transaction::transaction_at(s, at, base, table, out);
     match t {
-        Ran::To(e, o) => Formed::Read(6, date, e, o),
+        Ran::To(e, o) => Formed::Read(kind::TRANSACTION, date, e, o),
         Ran::Miss => by_keyword(s, at, date, base, table, out),
         Ran::Hard(k, p) => Formed::Hard(k, p),
     }

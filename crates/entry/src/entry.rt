@@ -4,6 +4,7 @@ use crate::directive::Formed;
 use amount::detail;
 use amount::detail::Detail;
 use amount::detail::One;
+use amount::kind;
 use row::table;
 use row::table::Row;
 use row::writer;
@@ -42,7 +43,7 @@ fn gap_quoted(s: &[u8], at: usize) -> One
         Read::To(j) => {
             let x = string::string(s, j);
             match x {
-                Read::To(e) => One::Read(e, detail::named(34, j + 1, e - 1, 0, 0)),
+                Read::To(e) => One::Read(e, detail::named(kind::STRING, j + 1, e - 1, 0, 0)),
                 Read::Miss => One::Miss,
             }
         }
@@ -128,7 +129,12 @@ fn tagged_at(s: &[u8], at: usize, base: usize, table: &mut [u8], out: Out) -> Ra
             let t = tag::tag(s, j);
             match t {
                 Read::To(e) => {
-                    let o = writer::emit(table, base, out, detail::named(23, j + 1, e, 0, 0));
+                    let o = writer::emit(
+                        table,
+                        base,
+                        out,
+                        detail::named(kind::TAG, j + 1, e, 0, 0),
+                    );
                     Ran::To(e, o)
                 }
                 Read::Miss => Ran::Miss,
@@ -144,7 +150,7 @@ fn blank_at(s: &[u8], out: Out) -> Formed
 {
     let e = run::run(s, 0, Class::Line);
     if e < s.len() {
-        return Formed::Read(1, 0, e + 1, out);
+        return Formed::Read(kind::BLANK, 0, e + 1, out);
     }
     Formed::Miss
 }
@@ -157,7 +163,7 @@ fn poptag_at(s: &[u8], base: usize, table: &mut [u8], out: Out) -> Formed
     match w {
         Read::To(e) => {
             let r = tagged_at(s, e, base, table, out);
-            directive::formed_as(5, 0, r)
+            directive::formed_as(kind::POPTAG, 0, r)
         }
         Read::Miss => Formed::Miss,
     }
@@ -171,7 +177,7 @@ fn pushtag_at(s: &[u8], base: usize, table: &mut [u8], out: Out) -> Formed
     match w {
         Read::To(e) => {
             let r = tagged_at(s, e, base, table, out);
-            directive::formed_as(4, 0, r)
+            directive::formed_as(kind::PUSHTAG, 0, r)
         }
         Read::Miss => poptag_at(s, base, table, out),
     }
@@ -185,7 +191,7 @@ fn include_form(s: &[u8], base: usize, table: &mut [u8], out: Out) -> Formed
     match w {
         Read::To(e) => {
             let r = include_at(s, e, base, table, out);
-            directive::formed_as(3, 0, r)
+            directive::formed_as(kind::INCLUDE, 0, r)
         }
         Read::Miss => pushtag_at(s, base, table, out),
     }
@@ -200,7 +206,7 @@ fn option_form(s: &[u8], base: usize, table: &mut [u8], out: Out) -> Formed
     match w {
         Read::To(e) => {
             let r = option_at(s, e, base, table, out);
-            directive::formed_as(2, 0, r)
+            directive::formed_as(kind::OPTION, 0, r)
         }
         Read::Miss => include_form(s, base, table, out),
     }

@@ -1,6 +1,7 @@
 -- M-110, the strict profile. Plain reading, and then a judgement of its rows: a ledger that plain reading accepts is refused if it has a lost line (16) or
 -- a transaction's flag other than `*` or `!` (17). The first such row decides, with its number, at its start.
 use Prim.Native.Nat.{ℕ}
+use Prim.Native.Char.{code}
 use mathlib.Core.Bool.{Bool, true, false, cond, not, _||_, _&&_}
 use mathlib.Core.List.{List, [], _∷_}
 use lib.Dec.{eqb}
@@ -9,6 +10,7 @@ use Rattle.text.specs.Bytes.{bytes, isBlank, isDigit}
 use Rattle.text.specs.Words.{startsWith}
 use Rattle.text.specs.Lines.{lineEndAt}
 use Rattle.text.specs.declared.Read.{Read}
+use Rattle.amount.specs.Kinds.{blankKind, flagKind}
 use Rattle.amount.specs.Literal.{between}
 use Rattle.row.specs.declared.table.Row.{Row}
 use Rattle.ledger.specs.Plain.{Reading, accepted, denied, part, plain}
@@ -33,7 +35,7 @@ lostLine u = isDigit (getD u 0 0) || (isBlank (getD u 0 0) && missed (lineEndAt 
 
 -- `*` or `!`
 abbrev pub isUsual : ℕ → Bool
-isUsual b = eqb b 42 || eqb b 33
+isUsual b = eqb b (code "*") || eqb b (code "!")
 
 -- a transaction's flag with the text u other than these
 unfoldable pub otherFlag : List ℕ → Bool
@@ -43,7 +45,7 @@ otherFlag u = not (isUsual (getD u 0 0))
 unfoldable pub objection : List ℕ → Row → ℕ
 objection s r =
     let u = between s (r .start) (r .end) in
-    cond (eqb (r .kind) 1) (cond (lostLine u) lostLineNumber 0) (cond (eqb (r .kind) 20) (cond (otherFlag u) flagNumber 0) 0)
+    cond (eqb (r .kind) blankKind) (cond (lostLine u) lostLineNumber 0) (cond (eqb (r .kind) flagKind) (cond (otherFlag u) flagNumber 0) 0)
 
 -- ---- strict reading
 

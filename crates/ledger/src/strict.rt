@@ -1,4 +1,5 @@
 // The strict profile's judgement of an entry that was read (M-110).
+use amount::kind;
 use text::Read;
 use text::bytes;
 use text::line;
@@ -19,11 +20,7 @@ pub const LOST_LINE: usize = 16;
 
 pub const FLAG: usize = 17;
 
-// The kinds of entries that it judges, and the bytes of a date.
-const BLANK: usize = 1;
-
-const TRANSACTION: usize = 6;
-
+// The bytes of a date.
 const DATE: usize = 10;
 
 // A refusal's number and its place from the entry's start; number 0 is none.
@@ -112,10 +109,10 @@ pub fn against(s: &[u8], len: usize, kind: usize) -> Objection
     requires { ⌜ len ≤ length (now s) ⌝ }
     ensures { λ r. ⌜ r ≡ entryObjection kind len (now (s .entry)) ⌝ }
 {
-    if kind == BLANK {
+    if kind == kind::BLANK {
         return lost(&s[0..len]);
     }
-    if kind == TRANSACTION {
+    if kind == kind::TRANSACTION {
         return flagged(s);
     }
     Objection {

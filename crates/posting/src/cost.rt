@@ -3,6 +3,7 @@ use amount::amounts;
 use amount::detail;
 use amount::detail::Detail;
 use amount::detail::One;
+use amount::kind;
 use row::writer;
 use row::writer::Out;
 use row::writer::Ran;
@@ -40,9 +41,9 @@ fn price_at(s: &[u8], at: usize) -> One
     if at < s.len() {
         if s[at] == b'@' {
             if bytes::peek(s, at + 1) == b'@' {
-                return gap_amount(s, at + 2, 30);
+                return gap_amount(s, at + 2, kind::TOTAL_PRICE);
             }
-            return gap_amount(s, at + 1, 29);
+            return gap_amount(s, at + 1, kind::UNIT_PRICE);
         }
     }
     One::Miss
@@ -128,7 +129,7 @@ fn date_amount(s: &[u8], d: Dated) -> Lot
             let c = comma_at(s, e);
             match c {
                 Read::To(f) => {
-                    let a = amounts::amount_at(s, f, 26);
+                    let a = amounts::amount_at(s, f, kind::AMOUNT);
                     match a {
                         One::Read(g, n) => Lot::Read(g, wide(y), n),
                         One::Miss => Lot::Miss,
@@ -172,7 +173,7 @@ fn date_first(s: &[u8], at: usize, a: One) -> Lot
 fn inside_at(s: &[u8], at: usize) -> Lot
     ensures { λ r. ⌜ r ≡ lotOf (inside (now (s .entry)) at) ⌝ }
 {
-    let a = amounts::amount_at(s, at, 26);
+    let a = amounts::amount_at(s, at, kind::AMOUNT);
     let x = amount_date(s, a);
     match x {
         Lot::Read(e, y, n) => Lot::Read(e, y, n),
@@ -212,7 +213,7 @@ fn cost_at(s: &[u8], at: usize, base: usize, table: &mut [u8], out: Out) -> Ran
                                 table,
                                 base,
                                 out,
-                                detail::named(28, at, f, y, 0),
+                                detail::named(kind::COST, at, f, y, 0),
                                 n,
                             );
                             Ran::To(f, o)

@@ -4,6 +4,7 @@ use amount::detail::Detail;
 use amount::detail::One;
 use amount::expression;
 use amount::expression::Answer;
+use amount::kind;
 use row::writer;
 use row::writer::Out;
 use row::writer::Ran;
@@ -42,7 +43,7 @@ fn unit_value(s: &[u8], a: usize, b: usize, at: usize) -> One
 {
     let x = currency::currency(s, at);
     match x {
-        Read::To(e) => One::Read(e, detail::named(37, a, b, at, e)),
+        Read::To(e) => One::Read(e, detail::named(kind::CURRENCY_META, a, b, at, e)),
         Read::Miss => One::Miss,
     }
 }
@@ -55,7 +56,7 @@ fn number_value(s: &[u8], a: usize, b: usize, at: usize) -> One
         Answer::Read(e, v) => One::Read(
             e,
             Detail {
-                kind: 36,
+                kind: kind::NUMBER_META,
                 start: a,
                 end: b,
                 p: at,
@@ -74,7 +75,7 @@ fn value_at(s: &[u8], a: usize, b: usize, at: usize) -> One
 {
     let x = string::string(s, at);
     match x {
-        Read::To(e) => One::Read(e, detail::named(35, a, b, at + 1, e - 1)),
+        Read::To(e) => One::Read(e, detail::named(kind::STRING_META, a, b, at + 1, e - 1)),
         Read::Miss => number_value(s, a, b, at),
     }
 }

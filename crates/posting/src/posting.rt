@@ -3,6 +3,7 @@ use crate::cost;
 use amount::amounts;
 use amount::detail;
 use amount::detail::One;
+use amount::kind;
 use row::writer;
 use row::writer::Out;
 use row::writer::Ran;
@@ -55,7 +56,7 @@ fn units_at(s: &[u8], at: usize, base: usize, table: &mut [u8], out: Out) -> Ran
     let g = line::gap(s, at);
     match g {
         Read::To(j) => {
-            let x = amounts::amount_at(s, j, 26);
+            let x = amounts::amount_at(s, j, kind::AMOUNT);
             match x {
                 One::Read(e, d) => {
                     let o = writer::emit(table, base, out, d);
@@ -96,7 +97,12 @@ fn holder_at(s: &[u8], at: usize, flag: usize, base: usize, table: &mut [u8], ou
     let a = account::account(s, at);
     match a {
         AccountRead::To(e) => {
-            let o = writer::emit(table, base, out, detail::named(33, at, e, flag, 0));
+            let o = writer::emit(
+                table,
+                base,
+                out,
+                detail::named(kind::POSTING, at, e, flag, 0),
+            );
             units_end(s, e, base, table, o)
         }
         AccountRead::Miss => Ran::Miss,

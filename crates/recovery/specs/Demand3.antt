@@ -6,6 +6,7 @@
 --
 -- The reading rules enter by three names alone: `readingBy`, plain or strict reading; `recoveredBy`, recovering reading; `whole`, demand 3's strings.
 use Prim.Native.Nat.{ℕ, _+_, _*_, _/_, _≤_}
+use Prim.Native.Char.{code}
 use mathlib.Core.Path.{_≡_}
 use mathlib.Core.Bool.{Bool, true, false, _||_, _&&_}
 use mathlib.Core.List.{List, [], _∷_, _++_}
@@ -23,6 +24,7 @@ use Rattle.ledger.specs.Answers.{answer, left}
 use Rattle.ledger.specs.declared.read.Answer.{Answer}
 use Rattle.ledger.specs.declared.scan.Profile.{Profile}
 use Rattle.recovery.specs.Recovering.{recoverBy, recoveredBy}
+use Rattle.amount.specs.Kinds.{refusalKind}
 
 -- ---- the words of the premises
 
@@ -34,7 +36,7 @@ startsTail (b ∷ s) = isDigit b || isSmall b
 -- a text of no bytes, or one whose last byte is a line feed
 unfoldable pub endsLine : List ℕ → Bool
 endsLine [] = true
-endsLine (b ∷ []) = eqb b 10
+endsLine (b ∷ []) = eqb b (code "\n")
 endsLine (b ∷ c ∷ s) = endsLine (c ∷ s)
 
 -- the strings of a text with these rows: the spans of kinds 21, 22, 32, 34, the values of 35, and both strings of an event line whose line end misses; none of
@@ -98,7 +100,7 @@ pub record RefusedBlock (K : Profile) (p x t : List ℕ) (k q : ℕ) : Type 0 wh
 
 -- the block's span and line, the refusal's number, and its place in the ledger
 abbrev pub refusalRow : List ℕ → List ℕ → ℕ → ℕ → Row
-refusalRow p x k q = rowOf 90 (length p) (length p + length x) (feeds p + 1) k (length p + q) (pos 0)
+refusalRow p x k q = rowOf refusalKind (length p) (length p + length x) (feeds p + 1) k (length p + q) (pos 0)
 
 -- the rows of what stands before the block, its one row, and the rows of what stands behind it
 abbrev pub OneRefusalRow : Profile → Type 0

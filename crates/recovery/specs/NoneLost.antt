@@ -10,6 +10,7 @@ use Rattle.text.specs.Bytes.{isDigit}
 use Rattle.row.specs.declared.table.Row.{Row}
 use Rattle.ledger.specs.Plain.{accepted}
 use Rattle.recovery.specs.Recovering.{recoveredStrictly}
+use Rattle.amount.specs.Kinds.{transactionKind, eventKind, refusalKind}
 
 -- a line of the text s starts at place a, with a digit
 pub record DigitLine (s : List ℕ) (a : ℕ) : Type 0 where
@@ -19,7 +20,7 @@ pub record DigitLine (s : List ℕ) (a : ℕ) : Type 0 where
 -- no row is that of a refused block
 abbrev pub NoneRefused : List Row → Type 0
 NoneRefused [] = Unit {0}
-NoneRefused (r ∷ rs) = (r .kind ≡ 90 → ⊥) × NoneRefused rs
+NoneRefused (r ∷ rs) = (r .kind ≡ refusalKind → ⊥) × NoneRefused rs
 
 -- among the rows stands that of a directive (kinds 6 to 13) that starts at place a
 pub record DirectiveAt (rs : List Row) (a : ℕ) : Type 0 where
@@ -28,8 +29,8 @@ pub record DirectiveAt (rs : List Row) (a : ℕ) : Type 0 where
   pub behind : List Row
   pub split : rs ≡ before ++ (row ∷ behind)
   pub place : row .start ≡ a
-  pub from : 6 ≤ row .kind
-  pub upto : row .kind ≤ 13
+  pub from : transactionKind ≤ row .kind
+  pub upto : row .kind ≤ eventKind
 
 abbrev pub NoneLost : Type 0
 NoneLost = (s : List ℕ) (rs : List Row) → recoveredStrictly s ≡ accepted rs → NoneRefused rs → (a : ℕ) → DigitLine s a → DirectiveAt rs a

@@ -12,6 +12,7 @@ use Rattle.ledger.specs.Plain.{moved, Reading, accepted, denied, sizeLimit}
 use Rattle.ledger.specs.Strict.{partBy}
 use Rattle.ledger.specs.declared.scan.Profile.{Profile}
 use Rattle.ledger.specs.declared.scan.Profile.the-variants.{Plain, Strict}
+use Rattle.amount.specs.Kinds.{refusalKind}
 
 -- the bytes of a text up to the next boundary behind its first byte, or all of them
 unfoldable pub blockLength : List ℕ → ℕ
@@ -22,7 +23,7 @@ blockLength (b ∷ s) = suc (cond (cuts b (getD s 0 0)) 0 (blockLength s))
 -- span and line, the refusal's number and its place in the ledger
 unfoldable pub blockRows : ℕ → ℕ → ℕ → Reading → List Row
 blockRows a l n (accepted rs) = moved a l rs
-blockRows a l n (denied k p) = rowOf 90 a (a + n) (l + 1) k (a + p) (pos 0) ∷ []
+blockRows a l n (denied k p) = rowOf refusalKind a (a + n) (l + 1) k (a + p) (pos 0) ∷ []
 
 -- block by block, each read in a profile, from place a on, with l line feeds before it; f bounds how many
 unfoldable pub recoverBy : Profile → ℕ → ℕ → ℕ → List ℕ → List Row

@@ -1,4 +1,5 @@
 // A block of a ledger: where it ends, and its rows.
+use amount::kind;
 use ledger::scan;
 use ledger::scan::Profile;
 use ledger::scan::Scan;
@@ -52,7 +53,7 @@ pub fn block(s: &[u8], base: usize, table: &mut [u8], profile: Profile) -> usize
             table::put_front(
                 table,
                 Row {
-                    kind: 90,
+                    kind: kind::REFUSAL,
                     start: base,
                     end: base + s.len(),
                     line: 0,

@@ -6,13 +6,14 @@ use lib.IntN.{ℤ, pos}
 use Rattle.decimal.specs.Exact.{wholeOf}
 use Rattle.decimal.specs.declared.Value.{Value}
 use Rattle.decimal.specs.declared.Value.the-variants.{Known, Refused}
+use Rattle.amount.specs.Kinds.{amountKind, unitPriceKind, totalPriceKind, stringMetaKind, numberMetaKind, currencyMetaKind}
 use Rattle.amount.specs.declared.detail.Detail.{Detail}
 use Rattle.row.specs.declared.table.Row.{Row}
 use Rattle.row.specs.Row.{rowOf}
 
 -- kinds whose p and q are a span
 unfoldable pub spanned : ℕ → Bool
-spanned k = eqb k 26 || eqb k 29 || eqb k 30 || eqb k 35 || eqb k 36 || eqb k 37
+spanned k = eqb k amountKind || eqb k unitPriceKind || eqb k totalPriceKind || eqb k stringMetaKind || eqb k numberMetaKind || eqb k currencyMetaKind
 
 unfoldable pub millionths : Value → ℤ
 millionths (Known d) = wholeOf d
@@ -26,4 +27,4 @@ laid base d =
 
 -- where the expression of a row starts
 unfoldable pub valuePlace : Detail → ℕ
-valuePlace d = cond (eqb (d .kind) 36) (d .p) (d .start)
+valuePlace d = cond (eqb (d .kind) numberMetaKind) (d .p) (d .start)

@@ -1,5 +1,6 @@
 -- The row table: a row, its 32 bytes, and what rows written from the front leave of a table.
 use Prim.Native.Nat.{ℕ, zero, suc, _+_, _*_, min}
+use Prim.Native.Char.{code}
 use mathlib.Core.Bool.{cond}
 use mathlib.Core.List.{List, [], _∷_, _++_}
 use lib.Dec.{eqb, leb}
@@ -60,7 +61,7 @@ pourAt n rs t = take (placeOf n (length t)) t ++ pour rs (drop (placeOf n (lengt
 -- the line feeds of a text
 unfoldable pub feeds : List ℕ → ℕ
 feeds [] = 0
-feeds (b ∷ s) = cond (eqb b 10) 1 0 + feeds s
+feeds (b ∷ s) = cond (eqb b (code "\n")) 1 0 + feeds s
 
 -- a row with its line: one plus the line feeds before its start
 unfoldable pub lined : List ℕ → Row → Row

@@ -2,6 +2,7 @@
 use crate::table;
 use crate::table::Row;
 use amount::detail::Detail;
+use amount::kind;
 use decimal::Value;
 use text::bytes;
 ghost use mathlib.Core.Path.{_≡_};
@@ -30,7 +31,12 @@ pub enum Ran {
 pub fn is_spanned(kind: usize) -> bool
     ensures { λ r. ⌜ r ≡ spanned kind ⌝ }
 {
-    (kind == 26) | (kind == 29) | (kind == 30) | (kind == 35) | (kind == 36) | (kind == 37)
+    (kind == kind::AMOUNT)
+        | (kind == kind::UNIT_PRICE)
+        | (kind == kind::TOTAL_PRICE)
+        | (kind == kind::STRING_META)
+        | (kind == kind::NUMBER_META)
+        | (kind == kind::CURRENCY_META)
 }
 
 fn wide(n: u64) -> usize
@@ -84,7 +90,11 @@ fn row_of(x: Detail, base: usize) -> Row
 fn value_place(x: Detail) -> usize
     ensures { λ r. ⌜ r ≡ valuePlace x ⌝ }
 {
-    if x.kind == 36 { x.p } else { x.start }
+    if x.kind == kind::NUMBER_META {
+        x.p
+    } else {
+        x.start
+    }
 }
 
 // One row more; the first refused value is kept.

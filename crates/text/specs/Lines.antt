@@ -1,5 +1,6 @@
 -- Gaps, and rule 2.
 use Prim.Native.Nat.{ℕ, _+_}
+use Prim.Native.Char.{code}
 use mathlib.Core.Bool.{cond, _&&_}
 use mathlib.Core.List.{List}
 use lib.Dec.{eqb, ltb, leb}
@@ -15,12 +16,12 @@ gapAt s at = cond (ltb at (blanks s at)) (To (blanks s at)) Miss
 
 -- Rule 2. Line end: blanks, optional `;` comment, then LF, CRLF or end of ledger.
 unfoldable pub commentEnd : List ℕ → ℕ → ℕ
-commentEnd s at = cond (eqb (getD s at 0) 59) (runTo inComment s (at + 1)) at
+commentEnd s at = cond (eqb (getD s at 0) (code ";")) (runTo inComment s (at + 1)) at
 
 unfoldable pub eolAt : List ℕ → ℕ → Read
 eolAt s at =
-    cond (eqb (getD s at 0) 10) (To (at + 1))
-    (cond (eqb (getD s at 0) 13 && eqb (getD s (at + 1) 0) 10) (To (at + 2))
+    cond (eqb (getD s at 0) (code "\n")) (To (at + 1))
+    (cond (eqb (getD s at 0) (code "\r") && eqb (getD s (at + 1) 0) (code "\n")) (To (at + 2))
     (cond (leb (length s) at) (To at) Miss))
 
 unfoldable pub lineEndAt : List ℕ → ℕ → Read

@@ -8,6 +8,7 @@ use Rattle.text.specs.Bytes.{bytes}
 use Rattle.text.specs.Run.{blanks}
 use Rattle.text.specs.Answer.{Ans, To, Miss, Hard, _then_, _and_, _else_, must, maybe, many}
 use Rattle.text.specs.Leaves.{gap, string, word, tag, link, lineEnd}
+use Rattle.amount.specs.Kinds.{flagKind, payeeKind, narrationKind, tagKind, linkKind}
 use Rattle.amount.specs.Details.{Rows, span}
 use Rattle.posting.specs.Metadata.{metadata}
 use Rattle.posting.specs.Postings.{flag, body}
@@ -15,20 +16,22 @@ use Rattle.posting.specs.Postings.{flag, body}
 -- what opens a transaction: a flag, or `txn`, which has no row
 unfoldable pub opening : List ℕ → ℕ → Rows
 opening s at =
+    let flagged = flag s at and λ e. To e (span flagKind at e ∷ []) in
     let txn = word (bytes "txn") s at in
-    (flag s at and λ e. To e (span 20 at e ∷ [])) else txn
+    flagged else txn
 
 unfoldable pub texts : List ℕ → ℕ → Rows
 texts s at =
     gap s at and λ a. string s a and λ e.
-    (gap s e and λ b. string s b and λ f. To f (span 21 (a + 1) (e - 1) ∷ span 22 (b + 1) (f - 1) ∷ [])) else To e (span 22 (a + 1) (e - 1) ∷ [])
+    (gap s e and λ b. string s b and λ f. To f (span payeeKind (a + 1) (e - 1) ∷ span narrationKind (b + 1) (f - 1) ∷ [])) else To e (span narrationKind (a + 1) (e - 1) ∷ [])
 
 -- a tag or a link, with blanks before it
 unfoldable pub mark : List ℕ → ℕ → Rows
 mark s at =
     let b = blanks s at in
-    let other = link s b and λ e. To e (span 24 (b + 1) e ∷ []) in
-    (tag s b and λ e. To e (span 23 (b + 1) e ∷ [])) else other
+    let tagged = tag s b and λ e. To e (span tagKind (b + 1) e ∷ []) in
+    let linked = link s b and λ e. To e (span linkKind (b + 1) e ∷ []) in
+    tagged else linked
 
 unfoldable pub marks : List ℕ → ℕ → Rows
 marks s at = many (mark s) (suc (length s)) at

@@ -1,6 +1,7 @@
 // Transactions (rule 11). After the flag or `txn` all is hard, so rows are written as they are read.
 use amount::detail;
 use amount::detail::One;
+use amount::kind;
 use posting::body;
 use posting::metadata;
 use row::writer;
@@ -60,7 +61,7 @@ fn opening_at(s: &[u8], at: usize, base: usize, table: &mut [u8], out: Out) -> R
             return txn_at(s, at, out);
         }
         let e = at + 1;
-        let o = emit_span(20, at, e, base, table, out);
+        let o = emit_span(kind::FLAG, at, e, base, table, out);
         return Ran::To(e, o);
     }
     Ran::Miss
@@ -96,12 +97,12 @@ fn second_text(s: &[u8], a: usize, e: usize, base: usize, table: &mut [u8], out:
     let x = gap_string(s, e);
     match x {
         GapString::Read(b, f) => {
-            let o = emit_span(21, a + 1, e - 1, base, table, out);
-            let p = emit_span(22, b + 1, f - 1, base, table, o);
+            let o = emit_span(kind::PAYEE, a + 1, e - 1, base, table, out);
+            let p = emit_span(kind::NARRATION, b + 1, f - 1, base, table, o);
             Ran::To(f, p)
         }
         GapString::Miss => {
-            let o = emit_span(22, a + 1, e - 1, base, table, out);
+            let o = emit_span(kind::NARRATION, a + 1, e - 1, base, table, out);
             Ran::To(e, o)
         }
     }
@@ -124,7 +125,7 @@ fn link_mark(s: &[u8], b: usize) -> One
 {
     let l = tag::link(s, b);
     match l {
-        Read::To(e) => One::Read(e, detail::named(24, b + 1, e, 0, 0)),
+        Read::To(e) => One::Read(e, detail::named(kind::LINK, b + 1, e, 0, 0)),
         Read::Miss => One::Miss,
     }
 }
@@ -136,7 +137,7 @@ fn mark_at(s: &[u8], at: usize) -> One
     let b = run::run(s, at, Class::Blank);
     let t = tag::tag(s, b);
     match t {
-        Read::To(e) => One::Read(e, detail::named(23, b + 1, e, 0, 0)),
+        Read::To(e) => One::Read(e, detail::named(kind::TAG, b + 1, e, 0, 0)),
         Read::Miss => link_mark(s, b),
     }
 }

@@ -1,4 +1,5 @@
 // A walk over the postings of a month, turn by turn: no loop, and two rows of its own.
+use amount::kind;
 use entry::entry::Entry;
 use posting::body;
 use row::table;
@@ -20,11 +21,7 @@ ghost use Rattle.ledger.specs.Plain.{sizeLimit};
 ghost use Rattle.walk.specs.Postings.{dated};
 ghost use Rattle.walk.specs.steps.Walks.{dateOf, headEnd, postedIn, outer, inner, Standing, Turned};
 
-// Kinds of rows: of a transaction, of a posting's amount; of a posting that states an amount, and of one that does not.
-const TRANSACTION: usize = 6;
-
-const AMOUNT: usize = 26;
-
+// Kinds of items (M-108): a posting that states an amount, and one that does not.
 const STATED: usize = 50;
 
 const UNSTATED: usize = 51;
@@ -102,7 +99,7 @@ fn entry_turn(s: &[u8], at: usize, from: usize, year: usize, month: usize) -> Tu
     let x = entry::entry::entry_at(&s[at..], at, &mut none);
     match x {
         Entry::Read(kind, n, _) => {
-            if kind == TRANSACTION {
+            if kind == kind::TRANSACTION {
                 if is_dated(date_of(&s[at..]), year, month) {
                     let e = body_start(&s[at..]);
                     return Turn::On(Cursor {
@@ -137,7 +134,7 @@ fn posted_in(t: &[u8], n: usize) -> Row
     let end = own.end;
     if 1 < n {
         let next = table::row_in(&t[WIDTH..]);
-        if next.kind == AMOUNT {
+        if next.kind == kind::AMOUNT {
             return Row {
                 kind: STATED,
                 start,

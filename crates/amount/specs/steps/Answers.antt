@@ -5,6 +5,7 @@ use mathlib.Core.List.{List, [], _∷_}
 use Rattle.decimal.specs.declared.Value.{Value}
 use Rattle.text.specs.Answer.{Ans, To, Miss, Hard, _and_, must}
 use Rattle.text.specs.Leaves.{currency}
+use Rattle.amount.specs.Kinds.{amountKind, currencyKind}
 use Rattle.amount.specs.Expression.{Arithmetic, negatedValue, isPlus, isTimes, atom, products, closed}
 use Rattle.amount.specs.Details.{Rows, zeroValue, span, valued}
 use Rattle.amount.specs.Amounts.{hardGap, hardAmount}
@@ -57,7 +58,7 @@ amountEnd k s at e v = hardGap s e and λ c. must c (currency s c) and λ d. To 
 
 -- a price from after its currency
 unfoldable pub pricedFrom : List ℕ → ℕ → ℕ → Rows
-pricedFrom s at e = To e (span 31 at e ∷ []) and λ e. hardGap s e and λ g. hardAmount 26 s g
+pricedFrom s at e = To e (span currencyKind at e ∷ []) and λ e. hardGap s e and λ g. hardAmount amountKind s g
 
 -- the answer of a reader that makes two rows and never misses
 unfoldable pub pairOf : Rows → Priced

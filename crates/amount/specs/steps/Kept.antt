@@ -1,5 +1,6 @@
 -- What the code keeps of the digits of a literal. The literal's own meaning is `literalAs`: a law shows that what is kept comes to it.
 use Prim.Native.Nat.{ℕ, _+_, _-_, _*_, _^_}
+use Prim.Native.Char.{code}
 use mathlib.Core.Bool.{Bool, true, false, cond, _&&_, _||_, not}
 use mathlib.Core.List.{List, [], _∷_}
 use lib.Dec.{leb, ltb, eqb}
@@ -20,16 +21,16 @@ grown n d = cond (ltb n 1000000000) (n * 10 + d) n
 unfoldable pub wholeFrom : ℕ → Bool → List ℕ → ℕ → Whole
 wholeFrom n seen [] i = record { end = i; size = n; digits = seen }
 wholeFrom n seen (b ∷ s) i =
-    cond (isDigit b) (wholeFrom (grown n (b - 48)) true s (i + 1))
-    (cond (eqb b 44) (wholeFrom n seen s (i + 1)) (record { end = i; size = n; digits = seen }))
+    cond (isDigit b) (wholeFrom (grown n (b - code "0")) true s (i + 1))
+    (cond (eqb b (code ",")) (wholeFrom n seen s (i + 1)) (record { end = i; size = n; digits = seen }))
 
 -- the digits and commas that go on a fraction: six places are kept, and of the others whether they are all 0
 unfoldable pub fractionFrom : ℕ → ℕ → Bool → Bool → List ℕ → ℕ → Fraction
 fractionFrom n k seen tail [] i = record { end = i; size = n; places = k; digits = seen; tail = tail }
 fractionFrom n k seen tail (b ∷ s) i =
     cond (isDigit b)
-    (cond (ltb k 6) (fractionFrom (n * 10 + (b - 48)) (k + 1) true tail s (i + 1)) (fractionFrom n k true (cond (eqb b 48) tail true) s (i + 1)))
-    (cond (eqb b 44) (fractionFrom n k seen tail s (i + 1)) (record { end = i; size = n; places = k; digits = seen; tail = tail }))
+    (cond (ltb k 6) (fractionFrom (n * 10 + (b - code "0")) (k + 1) true tail s (i + 1)) (fractionFrom n k true (cond (eqb b (code "0")) tail true) s (i + 1)))
+    (cond (eqb b (code ",")) (fractionFrom n k seen tail s (i + 1)) (record { end = i; size = n; places = k; digits = seen; tail = tail }))
 
 -- what makes millionths of a number with k places
 unfoldable pub factor : ℕ → ℕ
@@ -46,7 +47,7 @@ wholeLiteral minus w = cond (w .digits) (To (w .end) (keptValue minus (w .size) 
 -- a literal whose whole part has that size, and whose digits after the point are f: a second point makes it a miss
 unfoldable pub ended : Bool → List ℕ → ℕ → Fraction → Ans Value
 ended minus s whole f =
-    cond (eqb (getD s (f .end) 0) 46) Miss
+    cond (eqb (getD s (f .end) 0) (code ".")) Miss
     (cond (f .digits) (To (f .end) (keptValue minus whole (f .size) (f .places) (f .tail))) Miss)
 
 -- a literal with a point after its whole part w

@@ -7,6 +7,7 @@ use lib.ListN.{length}
 use Rattle.decimal.specs.declared.Value.{Value}
 use Rattle.text.specs.Answer.{To, _then_, _and_, must, maybe, many}
 use Rattle.text.specs.Leaves.{gap, currency}
+use Rattle.amount.specs.Kinds.{priceKind, balanceKind, openKind, closeKind, padKind, commodityKind, amountKind, toleranceKind}
 use Rattle.amount.specs.declared.detail.Detail.{Detail}
 use Rattle.amount.specs.Details.{Rows, valued}
 use Rattle.amount.specs.Expression.{expression}
@@ -22,14 +23,14 @@ unfoldable pub toleranceOf : List ℕ → ℕ → Rows
 toleranceOf s at = maybe at (tolerance s at)
 
 unfoldable pub toleranceRead : List ℕ → ℕ → ℕ → Rows
-toleranceRead s at i = maybe at (expression s i then λ e v. To e (valued 27 i e 0 0 v ∷ []))
+toleranceRead s at i = maybe at (expression s i then λ e v. To e (valued toleranceKind i e 0 0 v ∷ []))
 
 unfoldable pub balanceEnd : ℕ → ℕ → Value → Detail → List ℕ → ℕ → Rows
-balanceEnd g e v t s at = hardGap s at and λ c. must c (currency s c) and λ d. To d (valued 26 g e c d v ∷ someRow t)
+balanceEnd g e v t s at = hardGap s at and λ c. must c (currency s c) and λ d. To d (valued amountKind g e c d v ∷ someRow t)
 
 unfoldable pub balanceAmount : List ℕ → ℕ → Rows
 balanceAmount s g =
-    must g (expression s g) then λ e v. toleranceOf s e then λ t ts. hardGap s t and λ c. must c (currency s c) and λ d. To d (valued 26 g e c d v ∷ ts)
+    must g (expression s g) then λ e v. toleranceOf s e then λ t ts. hardGap s t and λ c. must c (currency s c) and λ d. To d (valued amountKind g e c d v ∷ ts)
 
 unfoldable pub gapCurrency : List ℕ → ℕ → Rows
 gapCurrency s at = gap s at and λ g. oneCurrency s g
@@ -49,7 +50,7 @@ listedOf s at = currenciesOf s at and λ c. bookingOf s c
 -- the content of the directive of a kind
 unfoldable pub contentOf : ℕ → List ℕ → ℕ → Rows
 contentOf k s at =
-    cond (eqb k 7) (priceOf s at)
-    (cond (eqb k 8) (balanceOf s at)
-    (cond (eqb k 9) (openOf s at)
-    (cond (eqb k 10) (hardAccount s at) (cond (eqb k 11) (padOf s at) (cond (eqb k 12) (hardCurrency s at) (eventOf s at))))))
+    cond (eqb k priceKind) (priceOf s at)
+    (cond (eqb k balanceKind) (balanceOf s at)
+    (cond (eqb k openKind) (openOf s at)
+    (cond (eqb k closeKind) (hardAccount s at) (cond (eqb k padKind) (padOf s at) (cond (eqb k commodityKind) (hardCurrency s at) (eventOf s at))))))

@@ -1,5 +1,6 @@
 -- What the engine's functions work out, in an arithmetic calc.
 use Prim.Native.Nat.{ℕ, _+_}
+use Prim.Native.Char.{code}
 use mathlib.Core.Bool.{Bool, true, false, cond, _||_}
 use mathlib.Core.List.{List}
 use lib.Dec.{eqb}
@@ -56,10 +57,10 @@ unfoldable pub settleOf : Arithmetic → List ℕ → Frame → ℕ → Value �
 settleOf calc s f e v = cond (f .negated) (Done e (negatedValue v)) (stepOf calc s f e v)
 
 unfoldable pub openOf : List ℕ → Frame → ℕ → Next
-openOf s f at = cond (eqb (getD s at 0) 40) (Group f at) (Missed f)
+openOf s f at = cond (eqb (getD s at 0) (code "(")) (Group f at) (Missed f)
 
 unfoldable pub beginOf : List ℕ → ℕ → Next
-beginOf s at = cond (eqb (getD s at 0) 45) (openOf s (firstFrame true) (blanks s (at + 1))) (openOf s (firstFrame false) at)
+beginOf s at = cond (eqb (getD s at 0) (code "-")) (openOf s (firstFrame true) (blanks s (at + 1))) (openOf s (firstFrame false) at)
 
 -- a literal, or what comes where there is none
 unfoldable pub taken : Ans Value → (ℕ → Value → Next) → Next → Next
@@ -76,4 +77,4 @@ operandOf calc s f at = taken (literal s at) (settleOf calc s f) (openOf s f at)
 unfoldable pub shutOf : Arithmetic → List ℕ → Frame → ℕ → Value → Next
 shutOf calc s f e v =
     let i = blanks s e in
-    cond (eqb (getD s i 0) 41) (settleOf calc s f (i + 1) v) (Missed f)
+    cond (eqb (getD s i 0) (code ")")) (settleOf calc s f (i + 1) v) (Missed f)

@@ -6,6 +6,7 @@ use Rattle.text.specs.Bytes.{bytes}
 use Rattle.text.specs.Words.{wordAt}
 use Rattle.text.specs.Answer.{Ans, To, Miss, Hard, _and_, _else_}
 use Rattle.text.specs.declared.Read.{Read}
+use Rattle.amount.specs.Kinds.{priceKind, balanceKind, openKind, closeKind, padKind, commodityKind, eventKind}
 use Rattle.amount.specs.Details.{Rows}
 use Rattle.amount.specs.Amounts.{hardGap, hardCurrency, priceOf}
 use Rattle.row.specs.declared.writer.Out.{Out}
@@ -28,13 +29,13 @@ orKeyword k Read.Miss next = next
 
 unfoldable pub lateKeyword : List ℕ → ℕ → Keyword
 lateKeyword s at =
-    orKeyword 11 (wordAt (bytes "pad") s at) (orKeyword 12 (wordAt (bytes "commodity") s at) (orKeyword 13 (wordAt (bytes "event") s at) Keyword.Miss))
+    orKeyword padKind (wordAt (bytes "pad") s at) (orKeyword commodityKind (wordAt (bytes "commodity") s at) (orKeyword eventKind (wordAt (bytes "event") s at) Keyword.Miss))
 
 unfoldable pub middleKeyword : List ℕ → ℕ → Keyword
-middleKeyword s at = orKeyword 9 (wordAt (bytes "open") s at) (orKeyword 10 (wordAt (bytes "close") s at) (lateKeyword s at))
+middleKeyword s at = orKeyword openKind (wordAt (bytes "open") s at) (orKeyword closeKind (wordAt (bytes "close") s at) (lateKeyword s at))
 
 unfoldable pub keywordAt : List ℕ → ℕ → Keyword
-keywordAt s at = orKeyword 7 (wordAt (bytes "price") s at) (orKeyword 8 (wordAt (bytes "balance") s at) (middleKeyword s at))
+keywordAt s at = orKeyword priceKind (wordAt (bytes "price") s at) (orKeyword balanceKind (wordAt (bytes "balance") s at) (middleKeyword s at))
 
 unfoldable pub contentEnd : ℕ → List ℕ → ℕ → Rows
 contentEnd k s at = contentOf k s at and λ m. lineEnd s m and λ l. metadata s l
@@ -45,13 +46,13 @@ gapContent k s at = hardGap s at and λ g. contentEnd k s g
 -- the seven keywords with their contents
 unfoldable pub byKeyword : ℕ → List ℕ → ℕ → Ans Form
 byKeyword d s g =
-    let price = asEntry 7 d (keyword "price" priceOf s g) in
-    let balance = asEntry 8 d (keyword "balance" balanceOf s g) in
-    let opens = asEntry 9 d (keyword "open" openOf s g) in
-    let close = asEntry 10 d (keyword "close" hardAccount s g) in
-    let pad = asEntry 11 d (keyword "pad" padOf s g) in
-    let commodity = asEntry 12 d (keyword "commodity" hardCurrency s g) in
-    let event = asEntry 13 d (keyword "event" eventOf s g) in
+    let price = asEntry priceKind d (keyword "price" priceOf s g) in
+    let balance = asEntry balanceKind d (keyword "balance" balanceOf s g) in
+    let opens = asEntry openKind d (keyword "open" openOf s g) in
+    let close = asEntry closeKind d (keyword "close" hardAccount s g) in
+    let pad = asEntry padKind d (keyword "pad" padOf s g) in
+    let commodity = asEntry commodityKind d (keyword "commodity" hardCurrency s g) in
+    let event = asEntry eventKind d (keyword "event" eventOf s g) in
     price else balance else opens else close else pad else commodity else event
 
 -- the code's enum of what a reader that writes answered

@@ -1,5 +1,6 @@
 -- Option, include, pushtag and poptag from each of their parts on, as the code reads them.
 use Prim.Native.Nat.{ℕ, _+_}
+use Prim.Native.Char.{code}
 use mathlib.Core.Bool.{cond}
 use mathlib.Core.List.{List, [], _∷_}
 use lib.Dec.{eqb}
@@ -8,6 +9,7 @@ use Rattle.text.specs.Bytes.{inLine}
 use Rattle.text.specs.Run.{runTo}
 use Rattle.text.specs.Answer.{Ans, To, more, _and_, _else_, must}
 use Rattle.text.specs.Leaves.{gap, tag, lineEnd}
+use Rattle.amount.specs.Kinds.{blankKind, optionKind, includeKind, pushtagKind, poptagKind, tagKind, stringKind}
 use Rattle.amount.specs.declared.detail.Detail.{Detail}
 use Rattle.amount.specs.Details.{Rows, span}
 use Rattle.amount.specs.Amounts.{hardGap}
@@ -21,14 +23,14 @@ use Rattle.entry.specs.declared.directive.Formed.{Formed}
 -- ---- what follows the words
 
 unfoldable pub gapQuoted : List ℕ → ℕ → Rows
-gapQuoted s at = gap s at and λ b. quoted (span 34) s b
+gapQuoted s at = gap s at and λ b. quoted (span stringKind) s b
 
 -- after an option's first string, whose row is x
 unfoldable pub optionEnd : Detail → List ℕ → ℕ → Rows
-optionEnd x s at = more (x ∷ []) (gap s at and λ d. quoted (span 34) s d and λ e. lineEnd s e)
+optionEnd x s at = more (x ∷ []) (gap s at and λ d. quoted (span stringKind) s d and λ e. lineEnd s e)
 
 unfoldable pub optionOf : List ℕ → ℕ → Rows
-optionOf s at = gap s at and λ b. quoted (span 34) s b and λ c. gap s c and λ d. quoted (span 34) s d and λ e. lineEnd s e
+optionOf s at = gap s at and λ b. quoted (span stringKind) s b and λ c. gap s c and λ d. quoted (span stringKind) s d and λ e. lineEnd s e
 
 unfoldable pub includeEnd : List ℕ → ℕ → Rows
 includeEnd s at = hardString s at and λ e. must e (lineEnd s e)
@@ -37,25 +39,25 @@ unfoldable pub includeOf : List ℕ → ℕ → Rows
 includeOf s at = hardGap s at and λ b. includeEnd s b
 
 unfoldable pub tagOf : List ℕ → ℕ → Rows
-tagOf s at = gap s at and λ b. tag s b and λ e. To e (span 23 (b + 1) e ∷ [])
+tagOf s at = gap s at and λ b. tag s b and λ e. To e (span tagKind (b + 1) e ∷ [])
 
 -- the code's answer at a line that is no other entry, where o is held
 unfoldable pub blankFormed : List ℕ → Out → Formed
-blankFormed s o = let e = runTo inLine s 0 in cond (eqb (getD s e 0) 10) (Formed.Read 1 0 (e + 1) o) Formed.Miss
+blankFormed s o = let e = runTo inLine s 0 in cond (eqb (getD s e 0) (code "\n")) (Formed.Read blankKind 0 (e + 1) o) Formed.Miss
 
 -- ---- the forms, each else the next
 
 unfoldable pub poptagForm : List ℕ → Ans Form
-poptagForm s = asEntry 5 0 (tagged "poptag" s 0)
+poptagForm s = asEntry poptagKind 0 (tagged "poptag" s 0)
 
 unfoldable pub pushtagForm : List ℕ → Ans Form
-pushtagForm s = asEntry 4 0 (tagged "pushtag" s 0) else poptagForm s
+pushtagForm s = asEntry pushtagKind 0 (tagged "pushtag" s 0) else poptagForm s
 
 unfoldable pub includeForm : List ℕ → Ans Form
-includeForm s = asEntry 3 0 (include s 0) else pushtagForm s
+includeForm s = asEntry includeKind 0 (include s 0) else pushtagForm s
 
 unfoldable pub optionForm : List ℕ → Ans Form
-optionForm s = asEntry 2 0 (option s 0) else includeForm s
+optionForm s = asEntry optionKind 0 (option s 0) else includeForm s
 
 unfoldable pub undated : List ℕ → Ans Form
 undated s = optionForm s else blank s

@@ -6,6 +6,7 @@ use lib.Dec.{eqb}
 use lib.ListN.{getD}
 use Rattle.text.specs.Bytes.{isSmall}
 use Rattle.text.specs.Run.{blanks}
+use Rattle.amount.specs.Kinds.{blankKind, transactionKind}
 use Rattle.amount.specs.Literal.{between}
 use Rattle.ledger.specs.Plain.{sizeLimit}
 use Rattle.ledger.specs.Strict.{lostLineNumber, flagNumber, isUsual, lostLine}
@@ -26,7 +27,7 @@ unfoldable pub flagOf : List ℕ → Objection
 flagOf s = let g = blanks s 10 in cond (flagPasses (getD s g 0)) (objectionOf 0 0) (objectionOf flagNumber g)
 
 unfoldable pub entryObjection : ℕ → ℕ → List ℕ → Objection
-entryObjection k n s = cond (eqb k 1) (lostOf (between s 0 n)) (cond (eqb k 6) (flagOf s) (objectionOf 0 0))
+entryObjection k n s = cond (eqb k blankKind) (lostOf (between s 0 n)) (cond (eqb k transactionKind) (flagOf s) (objectionOf 0 0))
 
 -- how far an objection stands at the most: in an entry, a flag behind its date; in a ledger
 abbrev pub entryReach : ℕ

@@ -1,5 +1,6 @@
 -- The price and the cost of a posting from each of their parts on, as the code reads them.
 use Prim.Native.Nat.{ℕ, _+_}
+use Prim.Native.Char.{code}
 use mathlib.Core.Bool.{cond}
 use mathlib.Core.List.{List, [], _∷_}
 use lib.Dec.{eqb}
@@ -10,6 +11,7 @@ use Rattle.text.specs.Leaves.{gap}
 use Rattle.text.specs.Dates.{dateAt}
 use Rattle.text.specs.declared.Read.{Read}
 use Rattle.text.specs.declared.date.Dated.{Dated}
+use Rattle.amount.specs.Kinds.{amountKind}
 use Rattle.amount.specs.declared.detail.Detail.{Detail}
 use Rattle.amount.specs.declared.detail.One.{One}
 use Rattle.amount.specs.Details.{Rows}
@@ -19,10 +21,10 @@ use Rattle.posting.specs.Costs.{Lot, price, cost}
 use Rattle.posting.specs.declared.cost.Lot as code
 
 unfoldable pub commaAt : List ℕ → ℕ → Read
-commaAt s at = let b = blanks s at in cond (eqb (getD s b 0) 44) (Read.To (blanks s (b + 1))) Read.Miss
+commaAt s at = let b = blanks s at in cond (eqb (getD s b 0) (code ",")) (Read.To (blanks s (b + 1))) Read.Miss
 
 unfoldable pub braceAt : List ℕ → ℕ → Read
-braceAt s at = let b = blanks s at in cond (eqb (getD s b 0) 125) (Read.To (b + 1)) Read.Miss
+braceAt s at = let b = blanks s at in cond (eqb (getD s b 0) (code "}")) (Read.To (b + 1)) Read.Miss
 
 -- the amount's row of a lot, or none
 unfoldable pub lotRow : List Detail → Detail
@@ -65,7 +67,7 @@ withDate y One.Miss = code.Lot.Miss
 withDate y (One.Hard k p) = code.Lot.Hard k p
 
 unfoldable pub dateAmount : List ℕ → Dated → code.Lot
-dateAmount s (Dated.On e y) = afterComma (commaAt s e) (λ f. withDate y (oneOf (amount 26 s f)))
+dateAmount s (Dated.On e y) = afterComma (commaAt s e) (λ f. withDate y (oneOf (amount amountKind s f)))
 dateAmount s Dated.Miss = code.Lot.Miss
 
 unfoldable pub alone : ℕ → One → Dated → code.Lot

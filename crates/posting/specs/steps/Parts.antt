@@ -7,6 +7,7 @@ use Rattle.text.specs.Answer.{To, _then_, _and_, maybe}
 use Rattle.text.specs.Lines.{gapAt}
 use Rattle.text.specs.Leaves.{account, lineEnd}
 use Rattle.text.specs.declared.Read.{Read}
+use Rattle.amount.specs.Kinds.{postingKind}
 use Rattle.amount.specs.Details.{Rows, named}
 use Rattle.posting.specs.Postings.{isFlag, postingFlag, units}
 use Rattle.posting.specs.steps.Lots.{optionalPrice, optionalCost}
@@ -24,7 +25,7 @@ unfoldable pub unitsEnd : List ℕ → ℕ → Rows
 unitsEnd s at = unitsOf s at and λ m. lineEnd s m
 
 unfoldable pub holderOf : ℕ → List ℕ → ℕ → Rows
-holderOf f s a = account s a and λ e. To e (named 33 a e f 0 ∷ []) and λ e. unitsEnd s e
+holderOf f s a = account s a and λ e. To e (named postingKind a e f 0 ∷ []) and λ e. unitsEnd s e
 
 unfoldable pub flaggedOf : List ℕ → ℕ → Rows
 flaggedOf s at = postingFlag s at then λ a f. holderOf f s a

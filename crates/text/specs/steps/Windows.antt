@@ -1,5 +1,6 @@
 -- Longest runs, looked for a window at a time.
 use Prim.Native.Nat.{ℕ, zero, suc, min}
+use Prim.Native.Char.{code}
 use mathlib.Core.Bool.{Bool, cond, _&&_, _||_}
 use lib.Dec.{leb, eqb}
 use Rattle.text.specs.Bytes.{startsPart, inAccount}
@@ -11,8 +12,8 @@ firstStop p none (suc n) = min (firstStop p none n) (cond (p n) none n)
 
 -- a capital, digit, `-`, `_`, one of two marks, or a small letter from a given one on
 unfoldable pub isAmong : ℕ → ℕ → ℕ → ℕ → Bool
-isAmong small x y b = startsPart b || (leb small b && leb b 122) || eqb b 45 || eqb b 95 || eqb b x || eqb b y
+isAmong small x y b = startsPart b || (leb small b && leb b (code "z")) || eqb b (code "-") || eqb b (code "_") || eqb b x || eqb b y
 
 -- a byte of an account, or `:` before the start of a part
 unfoldable pub goesOn : ℕ → ℕ → Bool
-goesOn b next = inAccount b || (eqb b 58 && startsPart next)
+goesOn b next = inAccount b || (eqb b (code ":") && startsPart next)

@@ -8,6 +8,7 @@ use Rattle.text.specs.Strings.{stringAt}
 use Rattle.text.specs.Words.{wordAt}
 use Rattle.text.specs.Leaves.{gap, string, link, lineEnd}
 use Rattle.text.specs.declared.Read.{Read}
+use Rattle.amount.specs.Kinds.{payeeKind, narrationKind, linkKind}
 use Rattle.amount.specs.Details.{Rows, span}
 use Rattle.row.specs.declared.writer.Out.{Out}
 use Rattle.row.specs.declared.writer.Ran.{Ran}
@@ -36,13 +37,13 @@ gapString s at = afterGap s (gapAt s at)
 
 unfoldable pub secondText : List ℕ → ℕ → ℕ → Rows
 secondText s a e =
-    (gap s e and λ b. string s b and λ f. To f (span 21 (a + 1) (e - 1) ∷ span 22 (b + 1) (f - 1) ∷ [])) else To e (span 22 (a + 1) (e - 1) ∷ [])
+    (gap s e and λ b. string s b and λ f. To f (span payeeKind (a + 1) (e - 1) ∷ span narrationKind (b + 1) (f - 1) ∷ [])) else To e (span narrationKind (a + 1) (e - 1) ∷ [])
 
 unfoldable pub textsOf : List ℕ → ℕ → Rows
 textsOf s at = maybe at (texts s at)
 
 unfoldable pub linkMark : List ℕ → ℕ → Rows
-linkMark s b = link s b and λ e. To e (span 24 (b + 1) e ∷ [])
+linkMark s b = link s b and λ e. To e (span linkKind (b + 1) e ∷ [])
 
 unfoldable pub markedOf : List ℕ → ℕ → Rows
 markedOf s at = marks s at and λ c. must c (lineEnd s c) and λ d. metadata s d
