@@ -1,6 +1,7 @@
 -- Document 01's edges of single expressions and of string content, and the examples of the decided points 4 to 10 and 25: one list under
 -- one statement for each, by computation.
 use Prim.Native.Nat.{ℕ}
+use Prim.Native.Char.{code}
 use Prim.Native.String.{String}
 use mathlib.Core.Path.{_≡_, refl}
 use mathlib.Core.Bool.{true, false}
@@ -56,14 +57,14 @@ singles =
     ∷ refused "0.0000001" 7 0
     ∷ refused "999999999.999999*1.000001" 6 0
     ∷ refused "2+(1/0)" 8 0
-    ∷ (49 ∷ 32 ∷ 0 ∷ [], Evaluated.Refusal 2 2)
+    ∷ (code "1" ∷ code " " ∷ 0 ∷ [], Evaluated.Refusal 2 2)
     ∷ (0 ∷ [], Evaluated.Refusal 2 0)
     ∷ refused "5\r" 2 1
     ∷ is "5\r\n" 1 5000000
-    ∷ (replicate 32 40 ++ 50 ∷ replicate 32 41, Evaluated.Read 65 (record { minus = false; size = 2000000 }))
-    ∷ (replicate 33 40 ++ 50 ∷ replicate 33 41, Evaluated.Refusal 3 32)
-    ∷ (replicate 33 40, Evaluated.Refusal 3 32)
-    ∷ (replicate 33 40 ++ 0 ∷ [], Evaluated.Refusal 2 33)
+    ∷ (replicate 32 (code "(") ++ code "2" ∷ replicate 32 (code ")"), Evaluated.Read 65 (record { minus = false; size = 2000000 }))
+    ∷ (replicate 33 (code "(") ++ code "2" ∷ replicate 33 (code ")"), Evaluated.Refusal 3 32)
+    ∷ (replicate 33 (code "("), Evaluated.Refusal 3 32)
+    ∷ (replicate 33 (code "(") ++ 0 ∷ [], Evaluated.Refusal 2 33)
     ∷ []
 
 -- every single expression gives the answer that it says, in the exact form

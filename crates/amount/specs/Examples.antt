@@ -1,5 +1,6 @@
 -- Document 01's edges of expressions, and the examples of the decided points 4, 5, 6, 8 and 9: one list under one statement, by computation.
 use Prim.Native.Nat.{ℕ}
+use Prim.Native.Char.{code}
 use Prim.Native.String.{String}
 use mathlib.Core.Path.{_≡_, refl}
 use mathlib.Core.Bool.{true, false}
@@ -34,7 +35,7 @@ misses s = (bytes s, Miss)
 
 -- n groups around 2, after another text
 abbrev nested : String → ℕ → List ℕ
-nested s n = bytes s ++ replicate n 40 ++ 50 ∷ replicate n 41
+nested s n = bytes s ++ replicate n (code "(") ++ code "2" ∷ replicate n (code ")")
 
 abbrev edges : List Example
 edges =

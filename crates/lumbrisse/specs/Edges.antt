@@ -1,6 +1,7 @@
 -- Document 01, "Both sides of each edge": one list under one statement, by computation. Expressions are in the exact
 -- form.
 use Prim.Native.Nat.{ℕ}
+use Prim.Native.Char.{code}
 use mathlib.Core.Path.{_≡_, refl}
 use mathlib.Core.List.{List, [], _∷_, _++_, map}
 use lib.ListN.{replicate}
@@ -24,7 +25,7 @@ refused = refuses Exact
 
 -- so many groups around 2
 abbrev groups : ℕ → List ℕ
-groups n = replicate n 40 ++ 50 ∷ replicate n 41
+groups n = replicate n (code "(") ++ code "2" ∷ replicate n (code ")")
 
 unfoldable pub edges : List Edge
 edges =
