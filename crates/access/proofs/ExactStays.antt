@@ -8,11 +8,11 @@ use Rattle.decimal.specs.declared.Decimal.{Decimal}
 use Rattle.decimal.specs.declared.Value.{Value}
 use Rattle.decimal.specs.declared.Value.the-variants.{Known, Refused}
 use Rattle.decimal.specs.Exact.{Knows}
-use Rattle.text.specs.Permitted.{clean}
+use Rattle.text.specs.Permitted.{clean, sizeLimit}
 use Rattle.text.specs.Answer.{Ans, To, Miss, Hard}
 use Rattle.amount.specs.Agreement.{Alike}
 use Rattle.amount.proofs.FormsAgree.{forms-agree}
-use Rattle.access.specs.Single.{sizeLimit, valueAnswer, readAnswer, evaluated, ExactStays}
+use Rattle.access.specs.Single.{valueAnswer, readAnswer, evaluated, ExactStays}
 use Rattle.access.specs.declared.single.Evaluated.{Evaluated}
 
 module _ (e : ℕ) (d : Decimal) where

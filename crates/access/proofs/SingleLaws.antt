@@ -10,13 +10,13 @@ use Rattle.decimal.specs.declared.Form.{Form}
 use Rattle.decimal.specs.declared.Decimal.{Decimal}
 use Rattle.decimal.specs.declared.Value.{Value}
 use Rattle.decimal.specs.declared.Value.the-variants.{Known, Refused}
-use Rattle.text.specs.Permitted.{clean}
+use Rattle.text.specs.Permitted.{clean, sizeLimit}
 use Rattle.text.specs.Answer.{Ans, To, Miss, Hard}
 use Rattle.amount.specs.Expression.{expressionIn}
 use Rattle.amount.specs.steps.Answers.{answerOf}
 use Rattle.amount.specs.declared.expression.Answer.{Answer}
 use Rattle.amount.proofs.Refusals.{Three, expressionIn-three}
-use Rattle.access.specs.Single.{sizeLimit, valueAnswer, readAnswer, evaluated}
+use Rattle.access.specs.Single.{valueAnswer, readAnswer, evaluated}
 use Rattle.access.specs.steps.Telling.{judgedOf, toldOf, answered}
 use Rattle.access.specs.declared.single.Evaluated.{Evaluated}
 use Rattle.access.specs.declared.single.Judged.{Judged}

@@ -10,14 +10,10 @@ use Rattle.decimal.specs.declared.Form.{Form}
 use Rattle.decimal.specs.declared.Form.the-variants.{Exact, Rounding}
 use Rattle.decimal.specs.declared.Value.{Value}
 use Rattle.decimal.specs.declared.Value.the-variants.{Known, Refused}
-use Rattle.text.specs.Permitted.{clean}
+use Rattle.text.specs.Permitted.{clean, sizeLimit}
 use Rattle.text.specs.Answer.{Ans, To, Miss, Hard}
 use Rattle.amount.specs.Expression.{expressionIn}
 use Rattle.access.specs.declared.single.Evaluated.{Evaluated}
-
--- a text's bytes at the most
-abbrev pub sizeLimit : ℕ
-sizeLimit = 16777216
 
 -- the place of 6, 7 and 8 is the start of the expression
 unfoldable pub valueAnswer : ℕ → Value → Evaluated

@@ -6,6 +6,7 @@ use decimal::Form;
 use decimal::Value;
 use text::bytes;
 use text::permitted;
+use text::permitted::SIZE;
 ghost use mathlib.Core.Path.{_≡_};
 ghost use Rattle.access.specs.Single.{valueAnswer, evaluated};
 ghost use Rattle.access.specs.steps.Telling.{judgedOf, toldOf};
@@ -21,9 +22,6 @@ enum Judged {
     Permitted,
     Refusal(usize, usize),
 }
-
-// A text's bytes at the most (refusal 1).
-const SIZE: usize = 16_777_216;
 
 fn judge(text: &[u8]) -> Judged
     ensures { λ r. ⌜ r ≡ judgedOf (now (text .entry)) ⌝ }

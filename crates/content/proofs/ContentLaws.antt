@@ -1,5 +1,5 @@
 -- The contents of directives as they are written, each answer from what the code knows where it gives it.
-use Prim.Native.Nat.{ℕ, _+_, _-_, _≤_}
+use Prim.Native.Nat.{ℕ, _+_, _-_}
 use native.Mathlib.Omega.{arith}
 use mathlib.Core.Path.{_≡_, refl}
 use mathlib.Core.List.{List, [], _∷_}
@@ -19,7 +19,7 @@ use Rattle.amount.specs.declared.amounts.Priced.{Priced}
 use Rattle.amount.specs.declared.detail.Detail.{Detail}
 use Rattle.row.specs.Row.{pourAt}
 use Rattle.row.specs.Details.{laid}
-use Rattle.row.specs.steps.Writing.{noted, Did}
+use Rattle.row.specs.steps.Writing.{noted, Did, Room}
 use Rattle.row.specs.declared.writer.Out.{Out}
 use Rattle.row.specs.declared.writer.Ran.{Ran}
 use Rattle.row.proofs.OutLaws.{noted-room, wrote-one, wrote-then}
@@ -150,11 +150,11 @@ module _ (base : ℕ) (s : List ℕ) (at : ℕ) (o : Out) (t v : List ℕ) (r : 
     event-hard = join-hard base o t v r (hardString s at) (eventOf s at) (pastGap hardString s) (event-is s at) (event-sure s) D
 
   -- there is room for what follows
-  pub account-room : (e : ℕ) (m : Out) → Did base (hardAccount s at) o t v r → r ≡ Ran.To e m → o .rows ≤ 16777216 → m .rows ≤ 33554431
-  account-room e m D q l = omega (arith, one-more base o t v r (hardAccount s at) D e m q (account-one s at))
+  pub account-room : (n e : ℕ) (m : Out) → Did base (hardAccount s at) o t v r → r ≡ Ran.To e m → Room (n + 1) o → Room n m
+  account-room n e m D q l = omega (arith, one-more base o t v r (hardAccount s at) D e m q (account-one s at))
 
-  pub string-room : (e : ℕ) (m : Out) → Did base (hardString s at) o t v r → r ≡ Ran.To e m → o .rows ≤ 16777216 → m .rows ≤ 33554431
-  string-room e m D q l = omega (arith, one-more base o t v r (hardString s at) D e m q (string-one s at))
+  pub string-room : (n e : ℕ) (m : Out) → Did base (hardString s at) o t v r → r ≡ Ran.To e m → Room (n + 1) o → Room n m
+  string-room n e m D q l = omega (arith, one-more base o t v r (hardString s at) D e m q (string-one s at))
 
 -- ---- price: x is the code's answer, u and w its rows, m is held and v is the table after the first
 

@@ -14,6 +14,7 @@ use Rattle.text.specs.Currencies.{currencyAt}
 use Rattle.text.specs.declared.Read.{Read}
 use Rattle.text.proofs.Steps.{run-ends}
 use Rattle.text.proofs.Joins.{Reach, and-assoc}
+use Rattle.text.specs.Permitted.{sizeLimit}
 use Rattle.amount.specs.Details.{Rows, span}
 use Rattle.amount.specs.steps.Answers.{oneOf}
 use Rattle.amount.specs.declared.detail.Detail.{Detail}
@@ -21,7 +22,7 @@ use Rattle.amount.specs.declared.detail.One.{One}
 use Rattle.amount.proofs.RowCounts.{maybe-fits}
 use Rattle.row.specs.Row.{pourAt}
 use Rattle.row.specs.Details.{laid}
-use Rattle.row.specs.steps.Writing.{noted, Did}
+use Rattle.row.specs.steps.Writing.{noted, Did, Room, Writable}
 use Rattle.row.specs.declared.writer.Out.{Out}
 use Rattle.row.specs.declared.writer.Ran.{Ran}
 use Rattle.row.proofs.PourLaws.{length-pourAt}
@@ -137,7 +138,7 @@ module _ (s : List ℕ) where
   furthers-start base at o t = runs-start base (length s) (further s) at o t
 
   module _ (base : ℕ) (a₀ : Rows) (o₀ : Out) (t₀ : List ℕ) (i : ℕ) (o : Out) (t : List ℕ) (R : Runs base (length s) (further s) a₀ o₀ t₀ i o t) where
-    pub furthers-room : base ≤ 16777216 → length s ≤ 16777216 → (base ≤ 16777216) × (o .rows ≤ 33554432)
+    pub furthers-room : base ≤ sizeLimit → length s ≤ sizeLimit → Writable 1 base o
     furthers-room = runs-room base (length s) (further s) a₀ o₀ t₀ i o t R
 
     pub furthers-done : length s ≤ i → Did base a₀ o₀ t₀ t (Ran.To i o)
@@ -254,7 +255,7 @@ module _ (base : ℕ) (s : List ℕ) (at : ℕ) (o : Out) (t v : List ℕ) (r : 
       pub open-few : m .rows ≤ e
       open-few = open-ends .1
 
-    pub listed-room : Did base (currenciesOf s at) o t v r → r ≡ Ran.To e m → o .rows ≤ at → at ≤ length s → length s ≤ 16777216 → m .rows ≤ 33554432
+    pub listed-room : Did base (currenciesOf s at) o t v r → r ≡ Ran.To e m → o .rows ≤ at → at ≤ length s → length s ≤ sizeLimit → Room 1 m
     unfolding currenciesOf
     listed-room D q l i n =
         omega (

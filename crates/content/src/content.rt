@@ -21,16 +21,14 @@ use text::run;
 use text::run::Class;
 use text::string;
 ghost use mathlib.Core.Path.{_≡_};
-ghost use Prim.Native.Nat.{_≤_};
-ghost use lib.ListN.{length};
 ghost use Rattle.amount.specs.steps.Answers.{oneOf};
 ghost use Rattle.amount.specs.Amounts.{hardCurrency, priceOf};
-ghost use Rattle.row.specs.steps.Writing.{Did};
+ghost use Rattle.row.specs.steps.Writing.{Did, Writable, Readable};
 ghost use Rattle.content.specs.Contents.{hardAccount, hardString, balanceOf, padOf, eventOf};
 ghost use Rattle.content.specs.steps.Parts.{pastGap, toleranceOf, toleranceRead, balanceEnd, balanceAmount, contentOf};
 
 pub fn required_account(s: &[u8], at: usize, base: usize, table: &mut [u8], out: Out) -> Ran
-    requires { ⌜ (base ≤ 16777216) × (out .rows ≤ 33554432) ⌝ }
+    requires { ⌜ Writable 1 base out ⌝ }
     ensures { λ r. ⌜ Did base (hardAccount (now (s .entry)) at) out (now (table .entry)) (now (table .exit)) r ⌝ }
 {
     let a = account::account(s, at);
@@ -45,7 +43,7 @@ pub fn required_account(s: &[u8], at: usize, base: usize, table: &mut [u8], out:
 }
 
 fn required_currency(s: &[u8], at: usize, base: usize, table: &mut [u8], out: Out) -> Ran
-    requires { ⌜ (base ≤ 16777216) × (out .rows ≤ 33554432) ⌝ }
+    requires { ⌜ Writable 1 base out ⌝ }
     ensures { λ r. ⌜ Did base (hardCurrency (now (s .entry)) at) out (now (table .entry)) (now (table .exit)) r ⌝ }
 {
     let u = currency::currency(s, at);
@@ -59,7 +57,7 @@ fn required_currency(s: &[u8], at: usize, base: usize, table: &mut [u8], out: Ou
 }
 
 pub fn required_string(s: &[u8], at: usize, base: usize, table: &mut [u8], out: Out) -> Ran
-    requires { ⌜ (base ≤ 16777216) × (out .rows ≤ 33554432) ⌝ }
+    requires { ⌜ Writable 1 base out ⌝ }
     ensures { λ r. ⌜ Did base (hardString (now (s .entry)) at) out (now (table .entry)) (now (table .exit)) r ⌝ }
 {
     let x = string::string(s, at);
@@ -79,7 +77,7 @@ pub fn required_string(s: &[u8], at: usize, base: usize, table: &mut [u8], out: 
 
 // Gap, account.
 fn gap_account(s: &[u8], at: usize, base: usize, table: &mut [u8], out: Out) -> Ran
-    requires { ⌜ (base ≤ 16777216) × (out .rows ≤ 33554431) ⌝ }
+    requires { ⌜ Writable 1 base out ⌝ }
     ensures { λ r. ⌜ Did base (pastGap hardAccount (now (s .entry)) at) out (now (table .entry)) (now (table .exit)) r ⌝ }
 {
     let g = line::gap(s, at);
@@ -91,7 +89,7 @@ fn gap_account(s: &[u8], at: usize, base: usize, table: &mut [u8], out: Out) -> 
 
 // Pad: account, gap, account.
 fn pad_at(s: &[u8], at: usize, base: usize, table: &mut [u8], out: Out) -> Ran
-    requires { ⌜ (base ≤ 16777216) × (out .rows ≤ 16777216) ⌝ }
+    requires { ⌜ Writable 2 base out ⌝ }
     ensures { λ r. ⌜ Did base (padOf (now (s .entry)) at) out (now (table .entry)) (now (table .exit)) r ⌝ }
 {
     let x = required_account(s, at, base, table, out);
@@ -104,7 +102,7 @@ fn pad_at(s: &[u8], at: usize, base: usize, table: &mut [u8], out: Out) -> Ran
 
 // Gap, string.
 fn gap_hard_string(s: &[u8], at: usize, base: usize, table: &mut [u8], out: Out) -> Ran
-    requires { ⌜ (base ≤ 16777216) × (out .rows ≤ 33554431) ⌝ }
+    requires { ⌜ Writable 1 base out ⌝ }
     ensures { λ r. ⌜ Did base (pastGap hardString (now (s .entry)) at) out (now (table .entry)) (now (table .exit)) r ⌝ }
 {
     let g = line::gap(s, at);
@@ -116,7 +114,7 @@ fn gap_hard_string(s: &[u8], at: usize, base: usize, table: &mut [u8], out: Out)
 
 // Event (H): string, gap, string.
 fn event_at(s: &[u8], at: usize, base: usize, table: &mut [u8], out: Out) -> Ran
-    requires { ⌜ (base ≤ 16777216) × (out .rows ≤ 16777216) ⌝ }
+    requires { ⌜ Writable 2 base out ⌝ }
     ensures { λ r. ⌜ Did base (eventOf (now (s .entry)) at) out (now (table .entry)) (now (table .exit)) r ⌝ }
 {
     let x = required_string(s, at, base, table, out);
@@ -129,7 +127,7 @@ fn event_at(s: &[u8], at: usize, base: usize, table: &mut [u8], out: Out) -> Ran
 
 // Price: currency, gap, amount.
 fn price_content(s: &[u8], at: usize, base: usize, table: &mut [u8], out: Out) -> Ran
-    requires { ⌜ (base ≤ 16777216) × (out .rows ≤ 33554431) ⌝ }
+    requires { ⌜ Writable 2 base out ⌝ }
     ensures { λ r. ⌜ Did base (priceOf (now (s .entry)) at) out (now (table .entry)) (now (table .exit)) r ⌝ }
 {
     let x = amounts::price_at(s, at);
@@ -190,7 +188,7 @@ fn balance_end(
     table: &mut [u8],
     out: Out,
 ) -> Ran
-    requires { ⌜ (base ≤ 16777216) × (out .rows ≤ 33554431) ⌝ }
+    requires { ⌜ Writable 2 base out ⌝ }
     ensures { λ r. ⌜ Did base (balanceEnd g e v t (now (s .entry)) at) out (now (table .entry)) (now (table .exit)) r ⌝ }
 {
     let h = line::gap(s, at);
@@ -219,7 +217,7 @@ fn balance_end(
 
 // After a balance's account and gap: expression, optionally a tolerance, gap, currency.
 fn balance_amount(s: &[u8], at: usize, base: usize, table: &mut [u8], out: Out) -> Ran
-    requires { ⌜ (base ≤ 16777216) × (out .rows ≤ 33554431) ⌝ }
+    requires { ⌜ Writable 2 base out ⌝ }
     ensures { λ r. ⌜ Did base (balanceAmount (now (s .entry)) at) out (now (table .entry)) (now (table .exit)) r ⌝ }
 {
     let x = expression::expression_at(s, at);
@@ -238,7 +236,7 @@ fn balance_amount(s: &[u8], at: usize, base: usize, table: &mut [u8], out: Out) 
 }
 
 fn gap_balance(s: &[u8], at: usize, base: usize, table: &mut [u8], out: Out) -> Ran
-    requires { ⌜ (base ≤ 16777216) × (out .rows ≤ 33554431) ⌝ }
+    requires { ⌜ Writable 2 base out ⌝ }
     ensures { λ r. ⌜ Did base (pastGap balanceAmount (now (s .entry)) at) out (now (table .entry)) (now (table .exit)) r ⌝ }
 {
     let g = line::gap(s, at);
@@ -250,7 +248,7 @@ fn gap_balance(s: &[u8], at: usize, base: usize, table: &mut [u8], out: Out) -> 
 
 // Balance: account, gap, expression, optionally a tolerance, gap, currency.
 fn balance_at(s: &[u8], at: usize, base: usize, table: &mut [u8], out: Out) -> Ran
-    requires { ⌜ (base ≤ 16777216) × (out .rows ≤ 16777216) ⌝ }
+    requires { ⌜ Writable 3 base out ⌝ }
     ensures { λ r. ⌜ Did base (balanceOf (now (s .entry)) at) out (now (table .entry)) (now (table .exit)) r ⌝ }
 {
     let x = required_account(s, at, base, table, out);
@@ -263,7 +261,7 @@ fn balance_at(s: &[u8], at: usize, base: usize, table: &mut [u8], out: Out) -> R
 
 // The content of the directive of a kind.
 pub fn content_at(s: &[u8], at: usize, kind: usize, base: usize, table: &mut [u8], out: Out) -> Ran
-    requires { ⌜ (base ≤ 16777216) × (length (now s) ≤ 16777216) × (at ≤ length (now s)) × (out .rows ≤ at) ⌝ }
+    requires { ⌜ Readable base (now s) at out ⌝ }
     ensures { λ r. ⌜ Did base (contentOf kind (now (s .entry)) at) out (now (table .entry)) (now (table .exit)) r ⌝ }
 {
     if kind == kind::PRICE {

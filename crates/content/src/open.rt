@@ -12,10 +12,8 @@ use text::currency;
 use text::line;
 use text::string;
 ghost use mathlib.Core.Path.{_≡_};
-ghost use Prim.Native.Nat.{_≤_};
-ghost use lib.ListN.{length};
 ghost use Rattle.amount.specs.steps.Answers.{oneOf};
-ghost use Rattle.row.specs.steps.Writing.{Did};
+ghost use Rattle.row.specs.steps.Writing.{Did, Writable, Readable};
 ghost use Rattle.content.specs.Contents.{oneCurrency, further, booking, openOf};
 ghost use Rattle.content.specs.steps.Parts.{gapCurrency, furthers, currenciesOf, bookingOf, listedOf};
 
@@ -42,7 +40,7 @@ fn further_at(s: &[u8], at: usize) -> One
 
 // The currencies after the first.
 fn furthers_at(s: &[u8], at: usize, base: usize, table: &mut [u8], out: Out) -> Ran
-    requires { ⌜ (base ≤ 16777216) × (length (now s) ≤ 16777216) × (at ≤ length (now s)) × (out .rows ≤ at) ⌝ }
+    requires { ⌜ Readable base (now s) at out ⌝ }
     ensures { λ r. ⌜ Did base (furthers (now (s .entry)) at) out (now (table .entry)) (now (table .exit)) r ⌝ }
 {
     let mut i = at;
@@ -74,7 +72,7 @@ fn gap_currency(s: &[u8], at: usize) -> One
 
 // Optionally gap and currencies.
 fn currencies_at(s: &[u8], at: usize, base: usize, table: &mut [u8], out: Out) -> Ran
-    requires { ⌜ (base ≤ 16777216) × (length (now s) ≤ 16777216) × (at ≤ length (now s)) × (out .rows ≤ at) ⌝ }
+    requires { ⌜ Readable base (now s) at out ⌝ }
     ensures { λ r. ⌜ Did base (currenciesOf (now (s .entry)) at) out (now (table .entry)) (now (table .exit)) r ⌝ }
 {
     let x = gap_currency(s, at);
@@ -107,7 +105,7 @@ fn gap_booking(s: &[u8], at: usize) -> One
 
 // Optionally gap and string.
 fn booking_at(s: &[u8], at: usize, base: usize, table: &mut [u8], out: Out) -> Ran
-    requires { ⌜ (base ≤ 16777216) × (out .rows ≤ 33554432) ⌝ }
+    requires { ⌜ Writable 1 base out ⌝ }
     ensures { λ r. ⌜ Did base (bookingOf (now (s .entry)) at) out (now (table .entry)) (now (table .exit)) r ⌝ }
 {
     let x = gap_booking(s, at);
@@ -123,7 +121,7 @@ fn booking_at(s: &[u8], at: usize, base: usize, table: &mut [u8], out: Out) -> R
 
 // After the account: optionally gap and currencies, optionally gap and string.
 fn listed_at(s: &[u8], at: usize, base: usize, table: &mut [u8], out: Out) -> Ran
-    requires { ⌜ (base ≤ 16777216) × (length (now s) ≤ 16777216) × (at ≤ length (now s)) × (out .rows ≤ at) ⌝ }
+    requires { ⌜ Readable base (now s) at out ⌝ }
     ensures { λ r. ⌜ Did base (listedOf (now (s .entry)) at) out (now (table .entry)) (now (table .exit)) r ⌝ }
 {
     let x = currencies_at(s, at, base, table, out);
@@ -135,7 +133,7 @@ fn listed_at(s: &[u8], at: usize, base: usize, table: &mut [u8], out: Out) -> Ra
 }
 
 pub fn open_at(s: &[u8], at: usize, base: usize, table: &mut [u8], out: Out) -> Ran
-    requires { ⌜ (base ≤ 16777216) × (length (now s) ≤ 16777216) × (at ≤ length (now s)) × (out .rows ≤ at) ⌝ }
+    requires { ⌜ Readable base (now s) at out ⌝ }
     ensures { λ r. ⌜ Did base (openOf (now (s .entry)) at) out (now (table .entry)) (now (table .exit)) r ⌝ }
 {
     let x = content::required_account(s, at, base, table, out);

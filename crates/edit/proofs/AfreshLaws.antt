@@ -10,9 +10,10 @@ use lib.Dec.{ltb, leb}
 use lib.ListN.{length, take, drop, length-append, length-take, length-drop, take-append-drop}
 use lib.Seq.{length-take-le, take-at}
 use Rattle.text.proofs.TestLaws.{and-left, and-right}
+use Rattle.text.specs.Permitted.{sizeLimit}
 use Rattle.row.specs.declared.table.Row.{Row}
 use Rattle.row.specs.Row.{width, rowsBytes, rowsIn}
-use Rattle.ledger.specs.Plain.{Reading, accepted, denied, sizeLimit}
+use Rattle.ledger.specs.Plain.{Reading, accepted, denied}
 use Rattle.ledger.specs.Answers.{answer, left}
 use Rattle.ledger.specs.declared.read.Answer.{Answer}
 use Rattle.ledger.specs.declared.scan.Profile.the-variants.{Plain}

@@ -12,6 +12,7 @@ use lib.ListN.{length, getD, take, drop, length-append, length-drop, take-append
 use lib.Seq.{length-take-le, drop-drop, getD-take, take-at}
 use Rattle.text.proofs.TestLaws.{and-left, and-right}
 use Rattle.text.proofs.Steps.{head-drop}
+use Rattle.text.specs.Permitted.{sizeLimit}
 use Rattle.amount.proofs.RowCounts.{refusalKind, midLine}
 use Rattle.row.specs.declared.table.Row.{Row}
 use Rattle.row.specs.Row.{width, rowsBytes, feeds}
@@ -20,7 +21,7 @@ use Rattle.row.proofs.PourLaws.{le-or-lt}
 use Rattle.row.proofs.LineLaws.{feeds-le}
 use Rattle.entry.proofs.EntryLines.{Each, OnLine}
 use Rattle.entry.proofs.EntryCut.{Ends}
-use Rattle.ledger.specs.Plain.{accepted, sizeLimit}
+use Rattle.ledger.specs.Plain.{accepted}
 use Rattle.ledger.specs.declared.scan.Profile.the-variants.{Plain}
 use Rattle.recovery.specs.Recovering.{blockLength, recoverFrom, recovered}
 use Rattle.recovery.specs.Demand3.{startsTail, endsLine}

@@ -9,17 +9,17 @@ use borrow.Author.Tests.{le-leb, leb-true}
 use lib.Dec.{leb}
 use lib.ListN.{length, drop, length-map}
 use lib.Seq.{drop-at}
+use Rattle.text.specs.Permitted.{sizeLimit}
 use Rattle.row.specs.declared.table.Row.{Row}
 use Rattle.row.specs.Row.{width, rowBytes, rowsBytes, rowIn, feeds, pour}
 use Rattle.row.proofs.PourLaws.{length-rowBytes, length-pour, pour-all}
-use Rattle.ledger.specs.Plain.{Reading, accepted, denied, sizeLimit}
+use Rattle.ledger.specs.Plain.{Reading, accepted, denied}
 use Rattle.ledger.specs.Answers.{answer, left}
 use Rattle.ledger.specs.declared.read.Answer.{Answer}
 use Rattle.ledger.specs.declared.scan.Profile.the-variants.{Plain}
 use Rattle.recovery.specs.Recovering.{recoverFrom, recovered}
 use Rattle.recovery.proofs.BlocksLaws.{recover-kept}
 use Rattle.recovery.proofs.CallLaws.{recovered-is}
-use Rattle.edit.specs.Edits.{before}
 use Rattle.edit.specs.declared.moves.By.{By}
 use Rattle.edit.specs.steps.Moving.{Small, shiftBy, movedIn, by, Fresh}
 use Rattle.edit.proofs.MoveLaws.{moveAll, recover-all}

@@ -7,11 +7,12 @@ use mathlib.Core.List.{List}
 use borrow.Author.Tests.{le-leb, lt-leb, leb-true, ltb-false, le-ltb, lt-ltb}
 use lib.Dec.{ltb, leb}
 use lib.ListN.{length}
+use Rattle.text.specs.Permitted.{sizeLimit}
 use Rattle.row.specs.Row.{width, rowsIn}
-use Rattle.ledger.specs.Plain.{Reading, accepted, denied, sizeLimit}
+use Rattle.ledger.specs.Plain.{Reading, accepted, denied}
 use Rattle.ledger.specs.Answers.{answer, left}
 use Rattle.ledger.specs.declared.read.Answer.{Answer}
-use Rattle.edit.specs.Edits.{isBlock, isNew, grows, before, editRows, editing}
+use Rattle.edit.specs.Edits.{isBlock, isNew, grows, editRows, editing}
 use Rattle.edit.specs.steps.Moving.{Within, refusal}
 use Rattle.edit.proofs.BlockTests.{block-bounds}
 

@@ -8,12 +8,12 @@ use borrow.Rule.Slice.PartMut.{putMid}
 use lib.ListN.{length, take, drop, length-append, length-drop, drop-of-length-le}
 use mir.Syntax.{w64}
 use mir.Val.{Fits}
+use Rattle.text.specs.Permitted.{sizeLimit}
 use Rattle.row.specs.declared.table.Row.{Row}
 use Rattle.row.specs.Row.{width, rowIn, feeds, pour, pourAt}
 use Rattle.row.proofs.PourLaws.{length-pour, length-pourAt, pour-append, pourAt-at, pourAt-append}
-use Rattle.ledger.specs.Plain.{sizeLimit}
 use Rattle.ledger.proofs.ScanLaws.{rest-of}
-use Rattle.edit.specs.Edits.{before, from}
+use Rattle.edit.specs.Edits.{before}
 use Rattle.edit.specs.declared.pick.Pick.{Pick}
 use Rattle.edit.specs.declared.reread.Plan.{Plan}
 use Rattle.edit.specs.declared.reread.Counts.{Counts}

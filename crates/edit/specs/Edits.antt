@@ -5,11 +5,12 @@ use mathlib.Core.Bool.{Bool, cond, _||_, _&&_}
 use mathlib.Core.List.{List, [], _∷_, _++_, map}
 use lib.Dec.{eqb, ltb, leb}
 use lib.ListN.{length, getD, take, drop}
+use Rattle.text.specs.Permitted.{sizeLimit}
 use Rattle.row.specs.declared.table.Row.{Row}
 use Rattle.row.specs.Row.{width, rowsIn, feeds}
 use Rattle.row.specs.Details.{spanned}
 use Rattle.row.specs.Strings.{cuts}
-use Rattle.ledger.specs.Plain.{Reading, accepted, denied, sizeLimit}
+use Rattle.ledger.specs.Plain.{Reading, accepted, denied}
 use Rattle.recovery.specs.Recovering.{blockLength, recoverFrom}
 use Rattle.recovery.specs.Demand3.{startsTail, endsLine}
 use Rattle.amount.specs.Kinds.{refusalKind}

@@ -14,6 +14,7 @@ use Rattle.decimal.specs.declared.Value.{Value}
 use Rattle.decimal.specs.declared.Value.the-variants.{Known, Refused}
 use Rattle.text.specs.Answer.{To}
 use Rattle.text.proofs.Joins.{Reach}
+use Rattle.text.specs.Permitted.{sizeLimit}
 use Rattle.amount.specs.declared.detail.Detail.{Detail}
 use Rattle.row.specs.declared.writer.Out.{Out}
 use Rattle.row.specs.Row.{rowOf, pour, placeOf}
@@ -187,10 +188,10 @@ module _ (base : ℕ) (s t : List ℕ) (i : ℕ) (v : List ℕ) (f : Formed) (w 
         let p = subst (Reach (length s) 1) (z .1) (form-reach s) .ends in
         omega (arith, p, rows-held (z .0 .details) m (z .4), form-placed s n (z .0) (z .1) .1)
 
-    pub entry-within : length s ≤ 16777216 → n ≤ 16777216
+    pub entry-within : length s ≤ sizeLimit → n ≤ sizeLimit
     entry-within l = omega (arith, entry-bounds)
 
-    pub entry-room : length s ≤ 16777216 → m .rows ≤ 16777216
+    pub entry-room : length s ≤ sizeLimit → m .rows ≤ sizeLimit
     entry-room l = omega (arith, entry-bounds)
 
 pub ruleset entry-laws = (entry-within, entry-room, entry-answer, entry-poured, entry-missed, entry-miss-left, entry-three, entry-other, entry-hard-left)

@@ -32,7 +32,7 @@ use Rattle.row.specs.declared.writer.Out.{Out}
 use Rattle.row.specs.declared.writer.Ran.{Ran}
 use Rattle.row.specs.Row.{pourAt}
 use Rattle.row.specs.Details.{laid}
-use Rattle.row.specs.steps.Writing.{noted, outs, Did}
+use Rattle.row.specs.steps.Writing.{noted, outs, Did, Room}
 use Rattle.row.proofs.OutLaws.{rows-noted, wrote-one, wrote-then, poured-none}
 use Rattle.row.proofs.DidLaws.{did-read, did-emit, and-read, and-miss, and-hard}
 use Rattle.row.proofs.TokenLaws.{token-read, token-miss, must-token-read, must-token-miss, must-token-end, must-token-end-miss}
@@ -131,7 +131,7 @@ module _ (base : ℕ) (x : Detail) (s : List ℕ) (at : ℕ) (o : Out) (t : List
   option-end-hard u k p h = rw (quoted-never s at (lineEnd s) b v k p h) refl
 
 -- room for the second row
-pub second-room : (o m : Out) (x : Detail) → m ≡ noted o x → o .rows ≤ 33554431 → m .rows ≤ 33554432
+pub second-room : (o m : Out) (x : Detail) → m ≡ noted o x → Room 2 o → Room 1 m
 second-room o m x e h = rw (e, rows-noted o x) (omega arith)
 
 pub ruleset option-end-laws = (second-room, option-end, option-open, option-end-miss, option-end-hard)

@@ -9,9 +9,7 @@ use text::date::Dated;
 use text::line;
 use text::word;
 ghost use mathlib.Core.Path.{_≡_};
-ghost use Prim.Native.Nat.{_≤_};
-ghost use lib.ListN.{length};
-ghost use Rattle.row.specs.steps.Writing.{Did};
+ghost use Rattle.row.specs.steps.Writing.{Did, Readable};
 ghost use Rattle.entry.specs.Forms.{dateless, directive};
 ghost use Rattle.entry.specs.steps.Formed.{contentEnd};
 ghost use Rattle.entry.specs.steps.Formed.{keywordAt, middleKeyword, lateKeyword, formedOf, DidForm, gapContent, byKeyword};
@@ -97,7 +95,7 @@ pub fn formed_as(kind: usize, date: usize, r: Ran) -> Formed
 
 // A content, line end (a plain miss), metadata. Where the line end misses, the rows that were written are covered by those that come next.
 fn content_end(s: &[u8], at: usize, kind: usize, base: usize, table: &mut [u8], out: Out) -> Ran
-    requires { ⌜ (base ≤ 16777216) × (length (now s) ≤ 16777216) × (at ≤ length (now s)) × (out .rows ≤ at) ⌝ }
+    requires { ⌜ Readable base (now s) at out ⌝ }
     ensures { λ r. ⌜ Did base (contentEnd kind (now (s .entry)) at) out (now (table .entry)) (now (table .exit)) r ⌝ }
 {
     let c = content::content::content_at(s, at, kind, base, table, out);
@@ -115,7 +113,7 @@ fn content_end(s: &[u8], at: usize, kind: usize, base: usize, table: &mut [u8], 
 }
 
 fn gap_content(s: &[u8], at: usize, kind: usize, base: usize, table: &mut [u8], out: Out) -> Ran
-    requires { ⌜ (base ≤ 16777216) × (length (now s) ≤ 16777216) × (at ≤ length (now s)) × (out .rows ≤ at) ⌝ }
+    requires { ⌜ Readable base (now s) at out ⌝ }
     ensures { λ r. ⌜ Did base (gapContent kind (now (s .entry)) at) out (now (table .entry)) (now (table .exit)) r ⌝ }
 {
     let g = line::gap(s, at);
@@ -127,7 +125,7 @@ fn gap_content(s: &[u8], at: usize, kind: usize, base: usize, table: &mut [u8], 
 
 // A keyword, a gap and a content, both hard, then line end (a plain miss) and metadata.
 fn by_keyword(s: &[u8], at: usize, date: usize, base: usize, table: &mut [u8], out: Out) -> Formed
-    requires { ⌜ (base ≤ 16777216) × (length (now s) ≤ 16777216) × (at ≤ length (now s)) × (out .rows ≤ at) ⌝ }
+    requires { ⌜ Readable base (now s) at out ⌝ }
     ensures { λ r. ⌜ DidForm base (byKeyword date (now (s .entry)) at) out (now (table .entry)) (now (table .exit)) r ⌝ }
 {
     let w = keyword_at(s, at);
@@ -142,7 +140,7 @@ fn by_keyword(s: &[u8], at: usize, date: usize, base: usize, table: &mut [u8], o
 
 // After the date and its gap: a transaction, or one of the keywords.
 fn dateless_at(s: &[u8], at: usize, date: usize, base: usize, table: &mut [u8], out: Out) -> Formed
-    requires { ⌜ (base ≤ 16777216) × (length (now s) ≤ 16777216) × (at ≤ length (now s)) × (out .rows ≤ at) ⌝ }
+    requires { ⌜ Readable base (now s) at out ⌝ }
     ensures { λ r. ⌜ DidForm base (dateless date (now (s .entry)) at) out (now (table .entry)) (now (table .exit)) r ⌝ }
 {
     let t = transaction::transaction::transaction_at(s, at, base, table, out);
@@ -161,7 +159,7 @@ fn wide(n: u32) -> usize
 
 // Directive: date, gap (hard), and that.
 pub fn directive_at(s: &[u8], base: usize, table: &mut [u8], out: Out) -> Formed
-    requires { ⌜ (base ≤ 16777216) × (length (now s) ≤ 16777216) × (out .rows ≤ 0) ⌝ }
+    requires { ⌜ Readable base (now s) 0 out ⌝ }
     ensures { λ r. ⌜ DidForm base (directive (now (s .entry))) out (now (table .entry)) (now (table .exit)) r ⌝ }
 {
     let d = date::date(s, 0);

@@ -20,8 +20,9 @@ use text::word;
 ghost use mathlib.Core.Path.{_≡_};
 ghost use Prim.Native.Nat.{_+_, _-_, _≤_};
 ghost use lib.ListN.{length};
+ghost use Rattle.text.specs.Permitted.{sizeLimit};
 ghost use Rattle.amount.specs.steps.Answers.{oneOf};
-ghost use Rattle.row.specs.steps.Writing.{Did};
+ghost use Rattle.row.specs.steps.Writing.{Did, Writable, Readable};
 ghost use Rattle.entry.specs.Forms.{formOf};
 ghost use Rattle.entry.specs.Entry.{entryOf};
 ghost use Rattle.entry.specs.steps.Formed.{DidForm};
@@ -53,7 +54,7 @@ fn gap_quoted(s: &[u8], at: usize) -> One
 
 // After an option's first string, whose row is x: gap, string, line end.
 fn option_end(s: &[u8], at: usize, x: Detail, base: usize, table: &mut [u8], out: Out) -> Ran
-    requires { ⌜ (base ≤ 16777216) × (out .rows ≤ 33554431) ⌝ }
+    requires { ⌜ Writable 2 base out ⌝ }
     ensures { λ r. ⌜ Did base (optionEnd x (now (s .entry)) at) out (now (table .entry)) (now (table .exit)) r ⌝ }
 {
     let b = gap_quoted(s, at);
@@ -76,7 +77,7 @@ fn option_end(s: &[u8], at: usize, x: Detail, base: usize, table: &mut [u8], out
 
 // After `option`: gap, string, gap, string, line end; all plain misses.
 fn option_at(s: &[u8], at: usize, base: usize, table: &mut [u8], out: Out) -> Ran
-    requires { ⌜ (base ≤ 16777216) × (out .rows ≤ 33554431) ⌝ }
+    requires { ⌜ Writable 2 base out ⌝ }
     ensures { λ r. ⌜ Did base (optionOf (now (s .entry)) at) out (now (table .entry)) (now (table .exit)) r ⌝ }
 {
     let a = gap_quoted(s, at);
@@ -89,7 +90,7 @@ fn option_at(s: &[u8], at: usize, base: usize, table: &mut [u8], out: Out) -> Ra
 
 // An include's string, line end; both required.
 fn include_end(s: &[u8], at: usize, base: usize, table: &mut [u8], out: Out) -> Ran
-    requires { ⌜ (base ≤ 16777216) × (out .rows ≤ 33554431) ⌝ }
+    requires { ⌜ Writable 2 base out ⌝ }
     ensures { λ r. ⌜ Did base (includeEnd (now (s .entry)) at) out (now (table .entry)) (now (table .exit)) r ⌝ }
 {
     let x = content::content::required_string(s, at, base, table, out);
@@ -108,7 +109,7 @@ fn include_end(s: &[u8], at: usize, base: usize, table: &mut [u8], out: Out) -> 
 
 // After `include`: gap, string, line end; all required.
 fn include_at(s: &[u8], at: usize, base: usize, table: &mut [u8], out: Out) -> Ran
-    requires { ⌜ (base ≤ 16777216) × (out .rows ≤ 33554431) ⌝ }
+    requires { ⌜ Writable 2 base out ⌝ }
     ensures { λ r. ⌜ Did base (includeOf (now (s .entry)) at) out (now (table .entry)) (now (table .exit)) r ⌝ }
 {
     let g = line::gap(s, at);
@@ -120,7 +121,7 @@ fn include_at(s: &[u8], at: usize, base: usize, table: &mut [u8], out: Out) -> R
 
 // After `pushtag` or `poptag`: gap, tag. What is left of the line is the next entry.
 fn tagged_at(s: &[u8], at: usize, base: usize, table: &mut [u8], out: Out) -> Ran
-    requires { ⌜ (base ≤ 16777216) × (out .rows ≤ 33554431) ⌝ }
+    requires { ⌜ Writable 2 base out ⌝ }
     ensures { λ r. ⌜ Did base (tagOf (now (s .entry)) at) out (now (table .entry)) (now (table .exit)) r ⌝ }
 {
     let g = line::gap(s, at);
@@ -156,7 +157,7 @@ fn blank_at(s: &[u8], out: Out) -> Formed
 }
 
 fn poptag_at(s: &[u8], base: usize, table: &mut [u8], out: Out) -> Formed
-    requires { ⌜ (base ≤ 16777216) × (length (now s) ≤ 16777216) × (out .rows ≤ 0) ⌝ }
+    requires { ⌜ Readable base (now s) 0 out ⌝ }
     ensures { λ r. ⌜ DidForm base (poptagForm (now (s .entry))) out (now (table .entry)) (now (table .exit)) r ⌝ }
 {
     let w = word::word(s, 0, b"poptag");
@@ -170,7 +171,7 @@ fn poptag_at(s: &[u8], base: usize, table: &mut [u8], out: Out) -> Formed
 }
 
 fn pushtag_at(s: &[u8], base: usize, table: &mut [u8], out: Out) -> Formed
-    requires { ⌜ (base ≤ 16777216) × (length (now s) ≤ 16777216) × (out .rows ≤ 0) ⌝ }
+    requires { ⌜ Readable base (now s) 0 out ⌝ }
     ensures { λ r. ⌜ DidForm base (pushtagForm (now (s .entry))) out (now (table .entry)) (now (table .exit)) r ⌝ }
 {
     let w = word::word(s, 0, b"pushtag");
@@ -184,7 +185,7 @@ fn pushtag_at(s: &[u8], base: usize, table: &mut [u8], out: Out) -> Formed
 }
 
 fn include_form(s: &[u8], base: usize, table: &mut [u8], out: Out) -> Formed
-    requires { ⌜ (base ≤ 16777216) × (length (now s) ≤ 16777216) × (out .rows ≤ 0) ⌝ }
+    requires { ⌜ Readable base (now s) 0 out ⌝ }
     ensures { λ r. ⌜ DidForm base (includeForm (now (s .entry))) out (now (table .entry)) (now (table .exit)) r ⌝ }
 {
     let w = word::word(s, 0, b"include");
@@ -199,7 +200,7 @@ fn include_form(s: &[u8], base: usize, table: &mut [u8], out: Out) -> Formed
 
 // Option, include, pushtag or poptag: no two of the words start alike.
 fn option_form(s: &[u8], base: usize, table: &mut [u8], out: Out) -> Formed
-    requires { ⌜ (base ≤ 16777216) × (length (now s) ≤ 16777216) × (out .rows ≤ 0) ⌝ }
+    requires { ⌜ Readable base (now s) 0 out ⌝ }
     ensures { λ r. ⌜ DidForm base (optionForm (now (s .entry))) out (now (table .entry)) (now (table .exit)) r ⌝ }
 {
     let w = word::word(s, 0, b"option");
@@ -213,7 +214,7 @@ fn option_form(s: &[u8], base: usize, table: &mut [u8], out: Out) -> Formed
 }
 
 fn undated_at(s: &[u8], base: usize, table: &mut [u8], out: Out) -> Formed
-    requires { ⌜ (base ≤ 16777216) × (length (now s) ≤ 16777216) × (out .rows ≤ 0) ⌝ }
+    requires { ⌜ Readable base (now s) 0 out ⌝ }
     ensures { λ r. ⌜ DidForm base (undated (now (s .entry))) out (now (table .entry)) (now (table .exit)) r ⌝ }
 {
     let x = option_form(s, base, table, out);
@@ -226,7 +227,7 @@ fn undated_at(s: &[u8], base: usize, table: &mut [u8], out: Out) -> Formed
 
 // Rule 1. Directive, option, include, pushtag or poptag, else a line.
 fn form_at(s: &[u8], base: usize, table: &mut [u8], out: Out) -> Formed
-    requires { ⌜ (base ≤ 16777216) × (length (now s) ≤ 16777216) × (out .rows ≤ 0) ⌝ }
+    requires { ⌜ Readable base (now s) 0 out ⌝ }
     ensures { λ r. ⌜ DidForm base (formOf (now (s .entry))) out (now (table .entry)) (now (table .exit)) r ⌝ }
 {
     let x = directive::directive_at(s, base, table, out);
@@ -246,7 +247,7 @@ fn settled_at(
     end: usize,
     out: Out,
 ) -> Entry
-    requires { ⌜ (base ≤ 16777216) × (end ≤ 16777216) × (out .rows ≤ 16777216) ⌝ }
+    requires { ⌜ (base ≤ sizeLimit) × (end ≤ sizeLimit) × (out .rows ≤ sizeLimit) ⌝ }
     ensures { λ r. ⌜ r ≡ settledEntry kind end out ⌝ }
     ensures { λ _. ⌜ now (table .exit) ≡ settledTable base kind date end out (now (table .entry)) ⌝ }
 {
@@ -273,7 +274,7 @@ fn settled_at(
 // The entry at the front of s, which starts at `base`; its rows go to the front of the table, where they fit. A refusal's place counts from the
 // entry's start: 3 stands at its group, 4 and 5 at the entry's start.
 pub fn entry_at(s: &[u8], base: usize, table: &mut [u8]) -> Entry
-    requires { ⌜ (base ≤ 16777216) × (length (now s) ≤ 16777216) ⌝ }
+    requires { ⌜ (base ≤ sizeLimit) × (length (now s) ≤ sizeLimit) ⌝ }
     ensures { λ r. ⌜ r ≡ entryAnswer (entryOf (now (s .entry))) ⌝ }
     ensures { λ _. ⌜ EntryPoured (entryOf (now (s .entry))) base (now (s .entry)) (now (table .entry)) (now (table .exit)) ⌝ }
 {

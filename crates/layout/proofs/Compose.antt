@@ -13,7 +13,7 @@ use Rattle.decimal.specs.Exact.{twosOf}
 use Rattle.decimal.specs.declared.Value.{Value}
 use Rattle.decimal.specs.declared.Value.the-variants.{Known, Refused}
 use Rattle.text.specs.Bytes.{inTag}
-use Rattle.text.specs.Permitted.{clean}
+use Rattle.text.specs.Permitted.{clean, sizeLimit}
 use Rattle.text.specs.Answer.{To, Miss}
 use Rattle.text.proofs.TestLaws.{and-left, and-right}
 use Rattle.text.proofs.Ats.{At, at-start, at-next, at-place}
@@ -29,7 +29,7 @@ use Rattle.entry.specs.Forms.{asEntry, Form, formOf}
 use Rattle.entry.specs.Entry.{Reads, got, refuse, detailRow, rowsOf, judged, settled, entryOf}
 use Rattle.entry.proofs.EntryForms.{entry-form, entry-sound}
 use Rattle.entry.proofs.EntryTold.{form-kind-low}
-use Rattle.ledger.specs.Plain.{Reading, accepted, denied, after, move, moved, readFrom, partAt, plain, sizeLimit}
+use Rattle.ledger.specs.Plain.{Reading, accepted, denied, after, move, moved, readFrom, partAt, plain}
 use Rattle.ledger.proofs.PlainLaws.{read-nil}
 use Rattle.ledger.proofs.Places.{Every}
 use Rattle.layout.specs.Meaning.{Item, texted, naming, itemFor, itemOf, meaning}

@@ -8,9 +8,10 @@ use mathlib.Core.Bool.{Bool, true, false, _&&_, _||_, not}
 use mathlib.Core.List.{List, [], _∷_}
 use lib.Dec.{eqb}
 use lib.ListN.{length}
+use Rattle.text.specs.Permitted.{sizeLimit}
 use Rattle.amount.specs.Kinds.{blankKind}
 use Rattle.row.specs.declared.table.Row.{Row}
-use Rattle.ledger.specs.Plain.{accepted, plain, sizeLimit}
+use Rattle.ledger.specs.Plain.{accepted, plain}
 use Rattle.layout.specs.Meaning.{Item, meaning}
 use Rattle.layout.specs.Written.{written}
 

@@ -9,7 +9,7 @@ use lib.Dec.{leb, ltb}
 use lib.ListN.{length, getD, take, drop, length-drop}
 use lib.Seq.{getD-drop, length-take-le}
 use Rattle.decimal.specs.Exact.{twosOf}
-use Rattle.text.specs.Permitted.{clean}
+use Rattle.text.specs.Permitted.{clean, sizeLimit}
 use Rattle.text.proofs.PermittedLaws.{clean-bytes}
 use Rattle.amount.specs.declared.detail.Detail.{Detail}
 use Rattle.amount.proofs.RowCounts.{postingKind, refusalKind, anyKinds, Second, unset, within, day, flagged, Rising}
@@ -23,7 +23,7 @@ use Rattle.entry.specs.Entry.{Reads, detailRow, rowsOf, got, refuse, entryOf}
 use Rattle.entry.proofs.EntryForms.{entry-form, entry-sound}
 use Rattle.entry.proofs.EntryTold.{form-placed, form-date, form-kind-low}
 use Rattle.entry.proofs.EntryLines.{Each, OnLine}
-use Rattle.ledger.specs.Plain.{move, moved, Reading, accepted, denied, after, readFrom, partAt, part, sizeLimit, plain}
+use Rattle.ledger.specs.Plain.{move, moved, Reading, accepted, denied, after, readFrom, partAt, part, plain}
 use Rattle.ledger.proofs.Places.{Every, every-append}
 use Rattle.ledger.proofs.PlainLaws.{read-got, read-refuse, Accepts, part-kept}
 

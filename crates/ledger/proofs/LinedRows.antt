@@ -6,6 +6,7 @@ use mathlib.Core.Path.{_≡_, refl, sym, _∙_, ap}
 use mathlib.Core.List.{List, [], _∷_, map}
 use borrow.Author.Tests.{le-leb}
 use lib.ListN.{length, take, length-map}
+use Rattle.text.specs.Permitted.{sizeLimit}
 use Rattle.row.specs.declared.table.Row.{Row}
 use Rattle.row.specs.Row.{feeds, lined, pour}
 use Rattle.row.specs.steps.Sweep.{linesSet}
@@ -32,11 +33,11 @@ module _ (top : ℕ) (s : List ℕ) where
   rows-lined [] h = refl
   rows-lined (r ∷ rs) (h, hs) = rw (line-of r h, rows-lined rs hs)
 
-  rows-low : (rs : List Row) → length s ≤ 16777216 → Each (OnLine top 0 1 s) rs → Low (map (withLine 0) rs)
+  rows-low : (rs : List Row) → length s ≤ sizeLimit → Each (OnLine top 0 1 s) rs → Low (map (withLine 0) rs)
   rows-low [] l h = tt
   rows-low (r ∷ rs) l (h, hs) = (omega (arith, h .place, h .inside), rows-low rs l hs)
 
-  pub lines-left : (rs : List Row) (t : List ℕ) → Kept top 0 1 s rs → length s ≤ 16777216 → length rs ≤ length t / 32
+  pub lines-left : (rs : List Row) (t : List ℕ) → Kept top 0 1 s rs → length s ≤ sizeLimit → length rs ≤ length t / 32
       → linesSet s (length rs) (pour (map (withLine 0) rs) t) ≡ left (accepted rs) t
   unfolding left
   lines-left rs t k l h =

@@ -9,7 +9,7 @@ use borrow.Author.Tests.{le-leb, lt-leb, leb-true, ltb-false}
 use borrow.Rule.Slice.PartMut.{putMid}
 use lib.Dec.{eqb, leb, ltb}
 use lib.ListN.{length, length-map, take, drop, length-take, drop-of-length-le}
-use Rattle.text.specs.Permitted.{clean}
+use Rattle.text.specs.Permitted.{clean, sizeLimit}
 use Rattle.amount.proofs.RowCounts.{refusalKind}
 use Rattle.row.specs.declared.table.Row.{Row}
 use Rattle.row.specs.Row.{pour, rowsBytes}
@@ -71,14 +71,14 @@ module _ (s : List ℕ) (rs : List Row) where
   bytes-stand true w e = absurd (let z : _≡_ {A = ℕ} 0 1 = cc in omega arith)
   bytes-stand false w e = (ltb-false (clean s) (length s) w, e)
 
-  size-stands : (b : Bool) → leb (length s) 16777216 ≡ b → cond b (part s) (denied 1 0) ≡ accepted rs → (length s ≤ 16777216) × (part s ≡ accepted rs)
-  size-stands true w e = (leb-true (length s) 16777216 w, e)
+  size-stands : (b : Bool) → leb (length s) sizeLimit ≡ b → cond b (part s) (denied 1 0) ≡ accepted rs → (length s ≤ sizeLimit) × (part s ≡ accepted rs)
+  size-stands true w e = (leb-true (length s) sizeLimit w, e)
   size-stands false w e = absurd (let z : _≡_ {A = ℕ} 0 1 = cc in omega arith)
 
-  pub plain-reads : plain s ≡ accepted rs → (length s ≤ 16777216) × (length s ≤ clean s) × (scanned 0 s ≡ accepted rs)
+  pub plain-reads : plain s ≡ accepted rs → (length s ≤ sizeLimit) × (length s ≤ clean s) × (scanned 0 s ≡ accepted rs)
   unfolding plain partAt scanned
   plain-reads e =
-      let z = size-stands (leb (length s) 16777216) refl e in
+      let z = size-stands (leb (length s) sizeLimit) refl e in
       let y = bytes-stand (ltb (clean s) (length s)) refl (z .1) in
       (z .0, y .0, y .1)
 
@@ -110,11 +110,11 @@ module _ (k : Profile) (s : List ℕ) (n : ℕ) (w : Scan.Whole n ≡ scanAnswer
   was-whole : (rs : List Row) × (readingBy k s ≡ accepted rs) × (n ≡ length rs)
   was-whole = whole-reads n (readingBy k s) w
 
-  rows-whole : (length s ≤ 16777216) × (length s ≤ clean s) × (scanned 0 s ≡ accepted (was-whole .0))
+  rows-whole : (length s ≤ sizeLimit) × (length s ≤ clean s) × (scanned 0 s ≡ accepted (was-whole .0))
   rows-whole = plain-reads s (was-whole .0) (by-rows k s (was-whole .0) (was-whole .1))
 
   -- the second pass may be made
-  pub whole-small : 0 + length s ≤ 16777216
+  pub whole-small : 0 + length s ≤ sizeLimit
   whole-small = omega (arith, rows-whole)
 
 module _ (k : Profile) (s : List ℕ) (n : ℕ) (w : Scan.Whole n ≡ scanAnswer (readingBy k s)) (t : List ℕ) where
@@ -175,14 +175,14 @@ stays-denied Strict s i p e = ap (judged s) e
 
 -- ---- the verdict: of a ledger that is too large, and of one that is read
 
-pub verdict-large : (k : Profile) (s : List ℕ) → 16777216 < length s → Scan.Stopped 1 0 ≡ scanAnswer (readingBy k s)
+pub verdict-large : (k : Profile) (s : List ℕ) → sizeLimit < length s → Scan.Stopped 1 0 ≡ scanAnswer (readingBy k s)
 unfolding scanAnswer plain
-verdict-large k s h = rw (stays-denied k s 1 0 (rw (lt-leb (length s) 16777216 h)))
+verdict-large k s h = rw (stays-denied k s 1 0 (rw (lt-leb (length s) sizeLimit h)))
 
-pub verdict-part : (k : Profile) (s : List ℕ) (m : Scan) → length s ≤ 16777216 → m ≡ scanAnswer (partAtBy k 0 s) → m ≡ scanAnswer (readingBy k s)
+pub verdict-part : (k : Profile) (s : List ℕ) (m : Scan) → length s ≤ sizeLimit → m ≡ scanAnswer (partAtBy k 0 s) → m ≡ scanAnswer (readingBy k s)
 unfolding plain
-verdict-part Plain s m l q = rw (le-leb (length s) 16777216 l) q
-verdict-part Strict s m l q = rw (le-leb (length s) 16777216 l) (q ∙ ap scanAnswer (moved-none (judged s (part s))))
+verdict-part Plain s m l q = rw (le-leb (length s) sizeLimit l) q
+verdict-part Strict s m l q = rw (le-leb (length s) sizeLimit l) (q ∙ ap scanAnswer (moved-none (judged s (part s))))
 
 pub ruleset verdict-laws = (verdict-large, verdict-part)
 

@@ -8,6 +8,7 @@ use mir.Val.{Fits}
 use borrow.Rule.Slice.PartMut.{putMid}
 use lib.ListN.{length, take, drop, length-append, length-map, length-drop, drop-of-length-le}
 use lib.Seq.{take-all, drop-drop}
+use Rattle.text.specs.Permitted.{sizeLimit}
 use Rattle.row.specs.declared.table.Row.{Row}
 use Rattle.row.specs.Row.{pour, pourAt, placeOf, feeds}
 use Rattle.row.specs.steps.Writing.{Poured}
@@ -154,17 +155,17 @@ module _ (a : ℕ) (s u : List ℕ) (at n : ℕ) (t : List ℕ) (g : Reached a s
     pub turn-len : m ≤ length (take (length s - at) (drop at s))
     turn-len = rw (rest-of s at, length-drop) (omega (arith, turn-bounds))
 
-    pub turn-place : a + length s ≤ 16777216 → Fits w64 (at + m)
+    pub turn-place : a + length s ≤ sizeLimit → Fits w64 (at + m)
     turn-place l = record { fits = omega (arith, turn-bounds) }
 
-    pub turn-count : a + length s ≤ 16777216 → Fits w64 (n + q)
+    pub turn-count : a + length s ≤ sizeLimit → Fits w64 (n + q)
     turn-count l = record { fits = omega (arith, turn-bounds, g .few) }
 
   module _ (k p : ℕ) (e : r ≡ Entry.Refused k p) where
     pub scan-denied : scanned a s ≡ denied k (a + at + p)
     scan-denied = g .rest ∙ ap (after (g .rows)) (read-stop a s at (g .line) k p h (turn-refused k p e))
 
-    pub turn-spot : a + length s ≤ 16777216 → Fits w64 (a + at + p)
+    pub turn-spot : a + length s ≤ sizeLimit → Fits w64 (a + at + p)
     turn-spot l = record { fits = omega (arith, entry-place (drop at s) k p (turn-refused k p e), length-drop at s) }
 
 -- the end is reached
@@ -175,11 +176,11 @@ module _ (a : ℕ) (s u : List ℕ) (at n : ℕ) (t : List ℕ) (g : Reached a s
       g .rest ∙ ap (after (g .rows)) e ∙ ap accepted (append-nil (g .rows))
 
 -- what the entry needs
-module _ (a : ℕ) (s : List ℕ) (at : ℕ) (l : a + length s ≤ 16777216) where
-  pub rest-small : length (take (length s - at) (drop at s)) ≤ 16777216
+module _ (a : ℕ) (s : List ℕ) (at : ℕ) (l : a + length s ≤ sizeLimit) where
+  pub rest-small : length (take (length s - at) (drop at s)) ≤ sizeLimit
   rest-small = rw (rest-of s at, length-drop) (omega arith)
 
-  pub place-small : at < length s → a + at ≤ 16777216
+  pub place-small : at < length s → a + at ≤ sizeLimit
   place-small h = omega arith
 
   pub place-fits : at < length s → Fits w64 (a + at)

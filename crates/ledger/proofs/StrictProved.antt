@@ -8,8 +8,9 @@ use mathlib.Core.List.{List, [], _∷_, _++_}
 use borrow.Author.Tests.{eqb-true, ne-eqb, eqb-false}
 use lib.Dec.{eqb, leb}
 use lib.ListN.{length}
+use Rattle.text.specs.Permitted.{sizeLimit}
 use Rattle.row.specs.declared.table.Row.{Row}
-use Rattle.ledger.specs.Plain.{Reading, accepted, denied, part, plain, sizeLimit}
+use Rattle.ledger.specs.Plain.{Reading, accepted, denied, part, plain}
 use Rattle.ledger.specs.Strict.{lostLine, otherFlag, objection, firstRefused, judged}
 use Rattle.ledger.specs.Strictness.{Passes, Later, Refused, StrictRows, PlainFirst, StrictExactly, InOrder}
 use Rattle.ledger.proofs.RowOrder.{Rises}

@@ -12,6 +12,7 @@ use lib.ListN.{length, take, drop, length-drop, drop-of-length-le}
 use Rattle.text.specs.Bytes.{isBlank}
 use Rattle.text.specs.Run.{blanks}
 use Rattle.text.proofs.Steps.{run-within, run-ends}
+use Rattle.text.specs.Permitted.{sizeLimit}
 use Rattle.row.specs.declared.table.Row.{Row}
 use Rattle.row.specs.Row.{feeds}
 use Rattle.row.proofs.PourLaws.{le-or-lt}
@@ -72,7 +73,7 @@ module _ (h : Objection) (at len kind : ℕ) (s : List ℕ) (p : Profile) where
     unfolding notedBy
     noted-strict r e q = rw (e, ← eo) q
 
-    pub noted-near : length s ≤ 16777216 → o .place ≤ entryReach
+    pub noted-near : length s ≤ sizeLimit → o .place ≤ entryReach
     noted-near l = rw eo (omega (arith, objection-near kind len s))
 
 pub ruleset noted-laws = (noted-plain, noted-strict, noted-near)
@@ -171,7 +172,7 @@ module _ (a : ℕ) (s u : List ℕ) (at n : ℕ) (t : List ℕ) (g : Reached a s
       go Plain rs f y j = ap (λ (i : Objection). i .number) y ∙ j
       go Strict rs f y j = subst (Heard s (at + m)) (sym y) (heard-turn s at o j h m rs f)
 
-  pub turn-near : a + length s ≤ 16777216 → o .place ≤ ledgerReach → p .place ≤ ledgerReach
+  pub turn-near : a + length s ≤ sizeLimit → o .place ≤ ledgerReach → p .place ≤ ledgerReach
   turn-near l b =
       subst (λ (i : Objection). i .place ≤ ledgerReach) (sym ep)
       (noted-place k o at _ b (omega (arith, objection-near kind m (take (length s - at) (drop at s)), ap length (rest-of s at), length-drop at s)))
@@ -237,11 +238,11 @@ module _ (a : ℕ) (s u : List ℕ) (at n : ℕ) (t : List ℕ) (g : Reached a s
 
 -- ---- what the judgement of an entry needs
 
-module _ (a : ℕ) (s : List ℕ) (at : ℕ) (l : a + length s ≤ 16777216) where
-  pub at-small : at < length s → at ≤ 16777216
+module _ (a : ℕ) (s : List ℕ) (at : ℕ) (l : a + length s ≤ sizeLimit) where
+  pub at-small : at < length s → at ≤ sizeLimit
   at-small h = omega arith
 
-  pub base-small : a ≤ 16777216
+  pub base-small : a ≤ sizeLimit
   base-small = omega arith
 
 pub ruleset judge-laws = (scan-laws, judged-start, turn-judged, turn-near, ended-answer, ended-poured, turn-stop, turn-left, at-small, base-small)

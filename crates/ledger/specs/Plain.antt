@@ -4,7 +4,7 @@ use mathlib.Core.Bool.{Bool, true, false, cond}
 use mathlib.Core.List.{List, [], _∷_, _++_, map}
 use lib.Dec.{eqb, leb, ltb}
 use lib.ListN.{length, take, drop}
-use Rattle.text.specs.Permitted.{clean}
+use Rattle.text.specs.Permitted.{clean, sizeLimit}
 use Rattle.row.specs.declared.table.Row.{Row}
 use Rattle.row.specs.Row.{feeds}
 use Rattle.row.specs.Details.{spanned}
@@ -48,10 +48,6 @@ readFrom (suc f) a l (b ∷ s) =
 -- the bytes first, then the entries
 unfoldable pub partAt : ℕ → ℕ → List ℕ → Reading
 partAt a l s = let entries = readFrom (length s) a l s in cond (ltb (clean s) (length s)) (denied 2 (a + clean s)) entries
-
--- a ledger's bytes at the most
-abbrev pub sizeLimit : ℕ
-sizeLimit = 16777216
 
 -- places count from 0, and lines from 1
 abbrev pub part : List ℕ → Reading

@@ -4,6 +4,7 @@ use crate::scan::Profile;
 use crate::scan::Scan;
 use row::lines;
 use row::table::WIDTH;
+use text::permitted::SIZE;
 ghost use mathlib.Core.Path.{_≡_};
 ghost use Prim.Native.Nat.{_/_};
 ghost use lib.ListN.{length};
@@ -11,9 +12,6 @@ ghost use Rattle.ledger.specs.Plain.{plain};
 ghost use Rattle.ledger.specs.Strict.{strict, readingBy};
 ghost use Rattle.ledger.specs.Answers.{answer, left};
 ghost use Rattle.ledger.specs.steps.Scan.{scanAnswer};
-
-// A ledger's bytes at the most (refusal 1).
-pub const SIZE: usize = 16_777_216;
 
 pub enum Answer {
     Rows(usize),

@@ -7,7 +7,7 @@ use text::permitted;
 ghost use mathlib.Core.Path.{_≡_};
 ghost use Prim.Native.Nat.{_+_, _≤_};
 ghost use lib.ListN.{length};
-ghost use Rattle.ledger.specs.Plain.{sizeLimit};
+ghost use Rattle.text.specs.Permitted.{sizeLimit};
 ghost use Rattle.ledger.specs.steps.Objections.{entryReach, ledgerReach, entryObjection};
 ghost use Rattle.ledger.specs.steps.Scan.{scannedBy, partAtBy, firstOf, notedBy, endedScan, scanAnswer, ScanPoured};
 
@@ -69,7 +69,7 @@ fn ended(base: usize, n: usize, held: Objection) -> Scan
 // Reads s, which starts at place `base` of a ledger; the rows go to the table's front, where they fit, with no lines yet. What stands behind
 // them in the table may change too.
 pub fn entries(s: &[u8], base: usize, table: &mut [u8], profile: Profile) -> Scan
-    requires { ⌜ base + length (now s) ≤ 16777216 ⌝ }
+    requires { ⌜ base + length (now s) ≤ sizeLimit ⌝ }
     ensures answer { λ r. ⌜ r ≡ scanAnswer (scannedBy profile base (now (s .entry))) ⌝ }
     ensures rows { λ _. ⌜ ScanPoured (scannedBy profile base (now (s .entry))) (now (table .entry)) (now (table .exit)) ⌝ }
 {
@@ -99,7 +99,7 @@ pub fn entries(s: &[u8], base: usize, table: &mut [u8], profile: Profile) -> Sca
 
 // Reads s, which starts at place `base` of a ledger: its bytes first, then its entries.
 pub fn part(s: &[u8], base: usize, table: &mut [u8], profile: Profile) -> Scan
-    requires { ⌜ base + length (now s) ≤ 16777216 ⌝ }
+    requires { ⌜ base + length (now s) ≤ sizeLimit ⌝ }
     ensures answer { λ r. ⌜ r ≡ scanAnswer (partAtBy profile base (now (s .entry))) ⌝ }
     ensures rows { λ _. ⌜ ScanPoured (partAtBy profile base (now (s .entry))) (now (table .entry)) (now (table .exit)) ⌝ }
 {

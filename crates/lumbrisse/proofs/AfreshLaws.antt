@@ -7,6 +7,7 @@ use mathlib.Core.List.{List, _++_}
 use lib.Dec.{leb}
 use lib.ListN.{length, take, drop}
 use lib.Seq.{take-at}
+use Rattle.text.specs.Permitted.{sizeLimit}
 use Rattle.row.specs.declared.table.Row.{Row}
 use Rattle.ledger.specs.Plain.{Reading, accepted, plain}
 use Rattle.layout.specs.Written.{written}
@@ -39,5 +40,5 @@ module _ (s : List ℕ) (rs : List Row) (o w : List ℕ) (r : Reply) (o′ w′ 
 
 pub writes-the-same : WritesTheSame
 writes-the-same s rs o w r o′ w′ a q P z h =
-    let R = m-103 s rs a q (subst (λ (n : ℕ). n ≤ 16777216) (wrote s rs o w r o′ w′ a P z .0) h) in
+    let R = m-103 s rs a q (subst (λ (n : ℕ). n ≤ sizeLimit) (wrote s rs o w r o′ w′ a P z .0) h) in
     subst (SaysTheSame s rs) (sym (text-is s rs o w r o′ w′ a P z)) (record { rows = R .rows; reads = R .reads; same = R .same; again = R .again })

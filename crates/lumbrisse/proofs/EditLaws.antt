@@ -6,9 +6,10 @@ use mathlib.Core.Bool.{Bool, true, false, cond, _||_, _&&_}
 use mathlib.Core.List.{List}
 use lib.Dec.{ltb, leb}
 use lib.ListN.{length}
+use Rattle.text.specs.Permitted.{sizeLimit}
 use Rattle.row.specs.declared.table.Row.{Row}
 use Rattle.row.specs.Row.{width, rowsIn}
-use Rattle.ledger.specs.Plain.{Reading, accepted, denied, sizeLimit}
+use Rattle.ledger.specs.Plain.{Reading, accepted, denied}
 use Rattle.ledger.specs.Answers.{answer, left}
 use Rattle.ledger.specs.declared.read.Answer.{Answer}
 use Rattle.recovery.specs.Recovering.{recoveredBy, recoverFrom, recovered}

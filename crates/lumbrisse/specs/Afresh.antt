@@ -6,8 +6,9 @@ use mathlib.Core.Path.{_≡_}
 use mathlib.Core.Bool.{true}
 use mathlib.Core.List.{List}
 use lib.ListN.{take}
+use Rattle.text.specs.Permitted.{sizeLimit}
 use Rattle.row.specs.declared.table.Row.{Row}
-use Rattle.ledger.specs.Plain.{accepted, plain, sizeLimit}
+use Rattle.ledger.specs.Plain.{accepted, plain}
 use Rattle.layout.specs.Meaning.{meaning}
 use Rattle.layout.specs.Written.{written}
 use Rattle.layout.specs.Claim.{quiet}

@@ -10,10 +10,11 @@ use Rattle.text.specs.Leaves.{token, gap, emptyLine}
 use Rattle.text.specs.Lines.{gapAt, emptyAt}
 use Rattle.text.specs.declared.Read.{Read}
 use Rattle.text.proofs.Joins.{Reach}
+use Rattle.text.specs.Permitted.{sizeLimit}
 use Rattle.amount.specs.declared.detail.Detail.{Detail}
 use Rattle.amount.specs.Details.{Rows}
 use Rattle.amount.proofs.RowCounts.{fits-at}
-use Rattle.row.specs.steps.Writing.{Did}
+use Rattle.row.specs.steps.Writing.{Did, Readable}
 use Rattle.row.specs.declared.writer.Out.{Out}
 use Rattle.row.specs.declared.writer.Ran.{Ran}
 use Rattle.row.proofs.OutLaws.{rows-outs, poured-none}
@@ -26,14 +27,10 @@ use Rattle.posting.proofs.OneRows.{token-miss}
 use Rattle.posting.proofs.ManyLaws.{Stepping, Turns, turns-start, turns-laws}
 use Rattle.posting.proofs.MetaWrites.{gap-end}
 
--- what a reader that may stand behind others needs: room for its rows
-abbrev pub Room : ℕ → List ℕ → ℕ → Out → Type 0
-Room base s at o = (base ≤ 16777216) × (length s ≤ 16777216) × (at ≤ length s) × (o .rows ≤ at)
-
 -- ---- a posting and its metadata: x is the posting's answer
 
 module _ (base : ℕ) (s : List ℕ) (at : ℕ) (o : Out) (t v : List ℕ) (x : Ran) (d : Did base (postingLine s at) o t v x) where
-  pub posting-room : (e : ℕ) (m : Out) → x ≡ Ran.To e m → base ≤ 16777216 → length s ≤ 16777216 → at ≤ length s → o .rows ≤ at → Room base s e m
+  pub posting-room : (e : ℕ) (m : Out) → x ≡ Ran.To e m → base ≤ sizeLimit → length s ≤ sizeLimit → at ≤ length s → o .rows ≤ at → Readable base s e m
   posting-room e m q b n h l =
       let z = was-read base o t v x (postingLine s at) e m d q in
       let f = fits-at at e (z .0) (postingLine s at) (posting-line-fits s at h) (z .1) in
@@ -99,7 +96,7 @@ module _ (s : List ℕ) where
   body-start base d at o t = turns-start base (length s) (bodyStep s) d at o t
 
   pub body-room : (base : ℕ) (a : Rows) (o₀ : Out) (t₀ : List ℕ) (d i : ℕ) (o : Out) (t : List ℕ) → Turns base (length s) (bodyStep s) a o₀ t₀ d i o t
-      → base ≤ 16777216 → length s ≤ 16777216 → Room base s i o
+      → base ≤ sizeLimit → length s ≤ sizeLimit → Readable base s i o
   body-room base a o₀ t₀ d i o t R b n = (b, n, R .inside, R .few)
 
 pub ruleset body-laws = (body-stepping, body-start, body-room, turns-laws)

@@ -7,10 +7,11 @@ use mathlib.Core.List.{List, []}
 use lib.ListN.{length}
 use Rattle.text.specs.Answer.{To, Miss, Hard, _and_, more, maybe, many}
 use Rattle.text.proofs.Joins.{Reach, many-turns}
+use Rattle.text.specs.Permitted.{sizeLimit}
 use Rattle.amount.specs.declared.detail.Detail.{Detail}
 use Rattle.amount.specs.Details.{Rows}
 use Rattle.amount.proofs.RowCounts.{Fits, fits-at}
-use Rattle.row.specs.steps.Writing.{Did}
+use Rattle.row.specs.steps.Writing.{Did, Writable}
 use Rattle.row.specs.declared.writer.Out.{Out}
 use Rattle.row.specs.declared.writer.Ran.{Ran}
 use Rattle.row.proofs.OutLaws.{rows-outs}
@@ -122,7 +123,7 @@ runs-start base n f i o t h l = turns-start base n f (suc n) i o t h l
 
 module _ (base n : ℕ) (f : ℕ → Rows) (a₀ : Rows) (o₀ : Out) (t₀ : List ℕ) (i : ℕ) (o : Out) (t : List ℕ) (R : Runs base n f a₀ o₀ t₀ i o t) where
   -- there is room for a turn's rows
-  pub runs-room : base ≤ 16777216 → n ≤ 16777216 → (base ≤ 16777216) × (o .rows ≤ 33554432)
+  pub runs-room : base ≤ sizeLimit → n ≤ sizeLimit → Writable 1 base o
   runs-room h l = (h, omega (arith, R .few, R .inside))
 
   pub runs-done : Stepping n f → n ≤ i → Did base a₀ o₀ t₀ t (Ran.To i o)

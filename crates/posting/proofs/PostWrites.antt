@@ -11,6 +11,7 @@ use Rattle.text.specs.Lines.{gapAt, lineEndAt}
 use Rattle.text.specs.Accounts.{accountAt}
 use Rattle.text.specs.declared.Read.{Read}
 use Rattle.text.specs.declared.account.AccountRead.{AccountRead}
+use Rattle.text.specs.Permitted.{sizeLimit}
 use Rattle.amount.specs.Details as details
 use Rattle.amount.specs.Amounts.{amount}
 use Rattle.amount.specs.steps.Answers.{oneOf}
@@ -18,7 +19,7 @@ use Rattle.amount.specs.declared.detail.Detail.{Detail}
 use Rattle.amount.specs.declared.detail.One.{One}
 use Rattle.row.specs.Row.{pourAt}
 use Rattle.row.specs.Details.{laid}
-use Rattle.row.specs.steps.Writing.{noted, Did}
+use Rattle.row.specs.steps.Writing.{noted, Did, Room, Writable}
 use Rattle.row.specs.declared.writer.Out.{Out}
 use Rattle.row.specs.declared.writer.Ran.{Ran}
 use Rattle.row.proofs.OutLaws.{rows-noted, rows-outs, wrote-one, written}
@@ -43,7 +44,7 @@ unfolding costsOf optionalCost
 costs-sure s at = sure-and (optionalPrice s) (sure-maybe at _) (λ e. price-sure s e)
 
 module _ (base : ℕ) (s : List ℕ) (at : ℕ) (o : Out) (t v : List ℕ) (x : Ran) (d : Did base (optionalCost s at) o t v x) where
-  pub costs-room : (e : ℕ) (m : Out) → x ≡ Ran.To e m → base ≤ 16777216 → o .rows ≤ 33554429 → (base ≤ 16777216) × (m .rows ≤ 33554432)
+  pub costs-room : (e : ℕ) (m : Out) → x ≡ Ran.To e m → base ≤ sizeLimit → Room 4 o → Writable 1 base m
   costs-room e m q h l =
       let z = was-read base o t v x (optionalCost s at) e m d q in
       (h, omega (arith, ap (λ (y : Out). y .rows) (z .2 .0), rows-outs (z .0) o, few-at 2 e (z .0) (optionalCost s at) (optional-cost-few s at) (z .1)))
@@ -99,11 +100,11 @@ module _ (base : ℕ) (s : List ℕ) (at : ℕ) (o : Out) (t : List ℕ) (g : Re
         (did-more base o t (d ∷ []) (costsOf s e) m w u r (written base o t (d ∷ []) m w (wrote-one base o t d m w f h)) z))
 
 -- a row more leaves room
-module _ (o : Out) (d : Detail) (m : Out) (p : m ≡ noted o d) (base : ℕ) (h : base ≤ 16777216) where
-  pub units-room : o .rows ≤ 33554428 → (base ≤ 16777216) × (m .rows ≤ 33554429)
+module _ (o : Out) (d : Detail) (m : Out) (p : m ≡ noted o d) (base : ℕ) (h : base ≤ sizeLimit) where
+  pub units-room : Room 5 o → Writable 4 base m
   units-room l = (h, omega (arith, ap (λ (y : Out). y .rows) p, rows-noted o d))
 
-  pub holder-room : o .rows ≤ 33554427 → (base ≤ 16777216) × (m .rows ≤ 33554428)
+  pub holder-room : Room 6 o → Writable 5 base m
   holder-room l = (h, omega (arith, ap (λ (y : Out). y .rows) p, rows-noted o d))
 
 pub ruleset units-laws = (units-bare, units-none, units-hard, units-read, units-room)

@@ -5,15 +5,13 @@ use row::writer::Out;
 use row::writer::Ran;
 use text::Read;
 use text::line;
-ghost use Prim.Native.Nat.{_≤_};
-ghost use lib.ListN.{length};
-ghost use Rattle.row.specs.steps.Writing.{Did};
+ghost use Rattle.row.specs.steps.Writing.{Did, Readable};
 ghost use Rattle.text.specs.Answer.{many};
 ghost use Rattle.posting.specs.Postings.{posting, bodyStep};
 
 // A posting with its metadata.
 fn posting_at(s: &[u8], at: usize, base: usize, table: &mut [u8], out: Out) -> Ran
-    requires { ⌜ (base ≤ 16777216) × (length (now s) ≤ 16777216) × (at ≤ length (now s)) × (out .rows ≤ at) ⌝ }
+    requires { ⌜ Readable base (now s) at out ⌝ }
     ensures { λ r. ⌜ Did base (posting (now (s .entry)) at) out (now (table .entry)) (now (table .exit)) r ⌝ }
 {
     let x = posting::posting_line(s, at, base, table, out);
@@ -26,7 +24,7 @@ fn posting_at(s: &[u8], at: usize, base: usize, table: &mut [u8], out: Out) -> R
 
 // A posting with its metadata; else an empty line.
 fn body_step(s: &[u8], at: usize, base: usize, table: &mut [u8], out: Out) -> Ran
-    requires { ⌜ (base ≤ 16777216) × (length (now s) ≤ 16777216) × (at ≤ length (now s)) × (out .rows ≤ at) ⌝ }
+    requires { ⌜ Readable base (now s) at out ⌝ }
     ensures { λ r. ⌜ Did base (bodyStep (now (s .entry)) at) out (now (table .entry)) (now (table .exit)) r ⌝ }
 {
     let x = posting_at(s, at, base, table, out);
@@ -45,7 +43,7 @@ fn body_step(s: &[u8], at: usize, base: usize, table: &mut [u8], out: Out) -> Ra
 
 // Postings and empty lines, so many at the most.
 pub fn body_at(s: &[u8], at: usize, base: usize, table: &mut [u8], out: Out, most: usize) -> Ran
-    requires { ⌜ (base ≤ 16777216) × (length (now s) ≤ 16777216) × (at ≤ length (now s)) × (out .rows ≤ at) ⌝ }
+    requires { ⌜ Readable base (now s) at out ⌝ }
     ensures { λ r. ⌜ Did base (many (bodyStep (now (s .entry))) most at) out (now (table .entry)) (now (table .exit)) r ⌝ }
 {
     let mut i = at;

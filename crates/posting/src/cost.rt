@@ -16,11 +16,10 @@ use text::run;
 use text::run::Class;
 ghost use mathlib.Core.Path.{_≡_};
 ghost use mathlib.Core.List.{map};
-ghost use Prim.Native.Nat.{_≤_};
 ghost use Rattle.amount.specs.steps.Answers.{oneOf};
 ghost use Rattle.row.specs.Row.{pourAt};
 ghost use Rattle.row.specs.Details.{laid};
-ghost use Rattle.row.specs.steps.Writing.{Did, outs};
+ghost use Rattle.row.specs.steps.Writing.{Did, outs, Writable};
 ghost use Rattle.posting.specs.Costs.{price, inside, cost};
 ghost use Rattle.posting.specs.steps.Lots.{commaAt, braceAt, lotOf, gapAmount, amountDate, dateAmount, alone, dateFirst, optionalPrice, optionalCost};
 
@@ -51,7 +50,7 @@ fn price_at(s: &[u8], at: usize) -> One
 
 // Optionally gap and price.
 pub fn optional_price(s: &[u8], at: usize, base: usize, table: &mut [u8], out: Out) -> Ran
-    requires { ⌜ (base ≤ 16777216) × (out .rows ≤ 33554432) ⌝ }
+    requires { ⌜ Writable 1 base out ⌝ }
     ensures { λ r. ⌜ Did base (optionalPrice (now (s .entry)) at) out (now (table .entry)) (now (table .exit)) r ⌝ }
 {
     let g = line::gap(s, at);
@@ -197,7 +196,7 @@ fn brace_at(s: &[u8], at: usize) -> Read
 
 // Cost: `{`, blanks, what stands inside, blanks, `}`.
 fn cost_at(s: &[u8], at: usize, base: usize, table: &mut [u8], out: Out) -> Ran
-    requires { ⌜ (base ≤ 16777216) × (out .rows ≤ 33554431) ⌝ }
+    requires { ⌜ Writable 2 base out ⌝ }
     ensures { λ r. ⌜ Did base (cost (now (s .entry)) at) out (now (table .entry)) (now (table .exit)) r ⌝ }
 {
     if at < s.len() {
@@ -231,7 +230,7 @@ fn cost_at(s: &[u8], at: usize, base: usize, table: &mut [u8], out: Out) -> Ran
 
 // Optionally gap and cost.
 pub fn optional_cost(s: &[u8], at: usize, base: usize, table: &mut [u8], out: Out) -> Ran
-    requires { ⌜ (base ≤ 16777216) × (out .rows ≤ 33554431) ⌝ }
+    requires { ⌜ Writable 2 base out ⌝ }
     ensures { λ r. ⌜ Did base (optionalCost (now (s .entry)) at) out (now (table .entry)) (now (table .exit)) r ⌝ }
 {
     let g = line::gap(s, at);

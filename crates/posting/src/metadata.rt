@@ -17,12 +17,11 @@ use text::run::Class;
 use text::string;
 use text::window;
 ghost use mathlib.Core.Path.{_≡_};
-ghost use Prim.Native.Nat.{_≤_};
-ghost use lib.ListN.{length, getD};
+ghost use lib.ListN.{getD};
 ghost use Rattle.text.specs.Bytes.{startsPart};
 ghost use Rattle.text.specs.Run.{blanks};
 ghost use Rattle.amount.specs.steps.Answers.{oneOf};
-ghost use Rattle.row.specs.steps.Writing.{Did};
+ghost use Rattle.row.specs.steps.Writing.{Did, Writable, Readable};
 ghost use Rattle.posting.specs.Metadata.{keyAt, value, metaLine, metaStep, metadata};
 ghost use Rattle.posting.specs.steps.Lines.{unitValue, numberValue, valueEnd, gapValue, colonValue, keyedLine};
 
@@ -152,7 +151,7 @@ fn starts_other(s: &[u8], at: usize) -> bool
 
 // A metadata line, else an empty or comment line. Most lines are neither, which one byte tells.
 fn meta_step(s: &[u8], at: usize, base: usize, table: &mut [u8], out: Out) -> Ran
-    requires { ⌜ (base ≤ 16777216) × (out .rows ≤ 33554432) ⌝ }
+    requires { ⌜ Writable 1 base out ⌝ }
     ensures { λ r. ⌜ Did base (metaStep (now (s .entry)) at) out (now (table .entry)) (now (table .exit)) r ⌝ }
 {
     if starts_other(s, at) {
@@ -177,7 +176,7 @@ fn meta_step(s: &[u8], at: usize, base: usize, table: &mut [u8], out: Out) -> Ra
 
 // Any number of metadata lines and of empty or comment lines.
 pub fn metadata_at(s: &[u8], at: usize, base: usize, table: &mut [u8], out: Out) -> Ran
-    requires { ⌜ (base ≤ 16777216) × (length (now s) ≤ 16777216) × (at ≤ length (now s)) × (out .rows ≤ at) ⌝ }
+    requires { ⌜ Readable base (now s) at out ⌝ }
     ensures { λ r. ⌜ Did base (metadata (now (s .entry)) at) out (now (table .entry)) (now (table .exit)) r ⌝ }
 {
     let mut i = at;

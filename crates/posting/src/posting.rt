@@ -13,8 +13,7 @@ use text::account::AccountRead;
 use text::bytes;
 use text::line;
 ghost use mathlib.Core.Path.{_≡_};
-ghost use Prim.Native.Nat.{_≤_};
-ghost use Rattle.row.specs.steps.Writing.{Did};
+ghost use Rattle.row.specs.steps.Writing.{Did, Writable};
 ghost use Rattle.posting.specs.Postings.{postingLine};
 ghost use Rattle.posting.specs.steps.Parts.{flagGap, costsOf, unitsOf, unitsEnd, holderOf, flaggedOf};
 
@@ -37,7 +36,7 @@ fn flag_gap(s: &[u8], at: usize) -> Read
 
 // After the amount: optionally gap and cost, optionally gap and price.
 fn costs_at(s: &[u8], at: usize, base: usize, table: &mut [u8], out: Out) -> Ran
-    requires { ⌜ (base ≤ 16777216) × (out .rows ≤ 33554429) ⌝ }
+    requires { ⌜ Writable 4 base out ⌝ }
     ensures { λ r. ⌜ Did base (costsOf (now (s .entry)) at) out (now (table .entry)) (now (table .exit)) r ⌝ }
 {
     let x = cost::optional_cost(s, at, base, table, out);
@@ -50,7 +49,7 @@ fn costs_at(s: &[u8], at: usize, base: usize, table: &mut [u8], out: Out) -> Ran
 
 // Optionally gap, amount, and what may follow it.
 fn units_at(s: &[u8], at: usize, base: usize, table: &mut [u8], out: Out) -> Ran
-    requires { ⌜ (base ≤ 16777216) × (out .rows ≤ 33554428) ⌝ }
+    requires { ⌜ Writable 5 base out ⌝ }
     ensures { λ r. ⌜ Did base (unitsOf (now (s .entry)) at) out (now (table .entry)) (now (table .exit)) r ⌝ }
 {
     let g = line::gap(s, at);
@@ -72,7 +71,7 @@ fn units_at(s: &[u8], at: usize, base: usize, table: &mut [u8], out: Out) -> Ran
 
 // After the account, whose row is written: units, line end.
 fn units_end(s: &[u8], at: usize, base: usize, table: &mut [u8], out: Out) -> Ran
-    requires { ⌜ (base ≤ 16777216) × (out .rows ≤ 33554428) ⌝ }
+    requires { ⌜ Writable 5 base out ⌝ }
     ensures { λ r. ⌜ Did base (unitsEnd (now (s .entry)) at) out (now (table .entry)) (now (table .exit)) r ⌝ }
 {
     let x = units_at(s, at, base, table, out);
@@ -91,7 +90,7 @@ fn units_end(s: &[u8], at: usize, base: usize, table: &mut [u8], out: Out) -> Ra
 
 // The account of a posting, with its flag; units; line end.
 fn holder_at(s: &[u8], at: usize, flag: usize, base: usize, table: &mut [u8], out: Out) -> Ran
-    requires { ⌜ (base ≤ 16777216) × (out .rows ≤ 33554427) ⌝ }
+    requires { ⌜ Writable 6 base out ⌝ }
     ensures { λ r. ⌜ Did base (holderOf flag (now (s .entry)) at) out (now (table .entry)) (now (table .exit)) r ⌝ }
 {
     let a = account::account(s, at);
@@ -112,7 +111,7 @@ fn holder_at(s: &[u8], at: usize, flag: usize, base: usize, table: &mut [u8], ou
 
 // Optionally flag and gap, account, units, line end.
 fn flagged_at(s: &[u8], at: usize, base: usize, table: &mut [u8], out: Out) -> Ran
-    requires { ⌜ (base ≤ 16777216) × (out .rows ≤ 33554427) ⌝ }
+    requires { ⌜ Writable 6 base out ⌝ }
     ensures { λ r. ⌜ Did base (flaggedOf (now (s .entry)) at) out (now (table .entry)) (now (table .exit)) r ⌝ }
 {
     let f = flag_gap(s, at);
@@ -127,7 +126,7 @@ fn flagged_at(s: &[u8], at: usize, base: usize, table: &mut [u8], out: Out) -> R
 
 // Rule 12, up to the line end.
 pub fn posting_line(s: &[u8], at: usize, base: usize, table: &mut [u8], out: Out) -> Ran
-    requires { ⌜ (base ≤ 16777216) × (out .rows ≤ 33554427) ⌝ }
+    requires { ⌜ Writable 6 base out ⌝ }
     ensures { λ r. ⌜ Did base (postingLine (now (s .entry)) at) out (now (table .entry)) (now (table .exit)) r ⌝ }
 {
     let g = line::gap(s, at);

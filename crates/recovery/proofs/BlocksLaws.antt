@@ -8,6 +8,7 @@ use mir.Val.{Fits}
 use borrow.Rule.Slice.PartMut.{putMid}
 use lib.ListN.{length, take, drop, length-append, length-map, length-take, length-drop, take-append-drop, drop-of-length-le}
 use lib.Seq.{take-all, drop-drop, length-take-le}
+use Rattle.text.specs.Permitted.{sizeLimit}
 use Rattle.amount.proofs.RowCounts.{refusalKind}
 use Rattle.row.specs.declared.table.Row.{Row}
 use Rattle.row.specs.Row.{rowsBytes, placeOf, feeds}
@@ -134,10 +135,10 @@ module _ (K : Profile) where
     pub turn-from : at ≤ at + j
     turn-from = omega arith
 
-    pub turn-place : length s ≤ 16777216 → Fits w64 (at + j)
+    pub turn-place : length s ≤ sizeLimit → Fits w64 (at + j)
     turn-place l = record { fits = omega (arith, block-bounds) }
 
-    pub turn-small : length s ≤ 16777216 → at + length (take (at + j - at) (drop at s)) ≤ 16777216
+    pub turn-small : length s ≤ sizeLimit → at + length (take (at + j - at) (drop at s)) ≤ sizeLimit
     turn-small l = rw (length-take, length-drop) (omega (arith, block-bounds))
 
     module _ (q : ℕ) (eq : q ≡ length (unlinedBlock K at (take (at + j - at) (drop at s)))) where
@@ -155,7 +156,7 @@ module _ (K : Profile) where
           let l = length-block (drop at s) in
           omega (arith, new-count, block-length, block-bounds, block-kept K at (g .line) (firstBlock (drop at s)) (omega (arith, block-bounds, block-length)) .few)
 
-      pub turn-count : length s ≤ 16777216 → Fits w64 (n + q)
+      pub turn-count : length s ≤ sizeLimit → Fits w64 (n + q)
       turn-count l = record { fits = omega (arith, g .few, g .inside, new-few, block-bounds) }
 
       pub turn-cut : (k : ℕ) (m : List ℕ) → k ≡ placeOf n (length t) → length t ≡ length u

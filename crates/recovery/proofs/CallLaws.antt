@@ -7,9 +7,10 @@ use mathlib.Core.List.{List, [], _∷_}
 use borrow.Author.Tests.{le-leb, eqb-true}
 use lib.ListN.{length, getD}
 use Rattle.text.proofs.TestLaws.{absurd-bool}
+use Rattle.text.specs.Permitted.{sizeLimit}
 use Rattle.row.specs.Strings.{isStart}
 use Rattle.entry.proofs.EntryCut.{Ends}
-use Rattle.ledger.specs.Plain.{accepted, sizeLimit}
+use Rattle.ledger.specs.Plain.{accepted}
 use Rattle.ledger.specs.declared.scan.Profile.{Profile}
 use Rattle.recovery.specs.Recovering.{recoverBy, recoveredBy}
 use Rattle.recovery.specs.Demand3.{startsTail, endsLine}
@@ -29,4 +30,4 @@ ends-is (b ∷ c ∷ s) e h = ends-cons b (c ∷ s) (omega arith) (ends-is (c �
 module _ (K : Profile) where
   pub recovered-is : (s : List ℕ) → length s ≤ sizeLimit → recoveredBy K s ≡ accepted (recoverBy K (length s) 0 0 s)
   unfolding recoveredBy
-  recovered-is s h = rw (le-leb (length s) 16777216 h)
+  recovered-is s h = rw (le-leb (length s) sizeLimit h)

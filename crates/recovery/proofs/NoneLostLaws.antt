@@ -11,7 +11,7 @@ use lib.IntN.{pos}
 use lib.ListN.{length, getD, take, drop, length-take, length-drop}
 use lib.Seq.{getD-take, getD-drop}
 use Rattle.text.specs.Bytes.{isDigit}
-use Rattle.text.specs.Permitted.{clean}
+use Rattle.text.specs.Permitted.{clean, sizeLimit}
 use Rattle.text.proofs.TestLaws.{absurd-bool}
 use Rattle.row.specs.declared.table.Row.{Row}
 use Rattle.row.specs.Row.{rowOf, feeds}
@@ -20,7 +20,7 @@ use Rattle.row.proofs.PourLaws.{le-or-lt}
 use Rattle.entry.specs.Entry.{detailRow, rowsOf, Reads, got, refuse, entryOf}
 use Rattle.entry.proofs.EntryForms.{entry-form, entry-sound}
 use Rattle.entry.proofs.EntryTold.{form-kind-low, digit-kind}
-use Rattle.ledger.specs.Plain.{move, moved, Reading, accepted, denied, after, readFrom, partAt, part, sizeLimit}
+use Rattle.ledger.specs.Plain.{move, moved, Reading, accepted, denied, after, readFrom, partAt, part}
 use Rattle.ledger.specs.Strict.{lostLine, objection, partBy}
 use Rattle.ledger.specs.Strictness.{Passes}
 use Rattle.ledger.specs.declared.scan.Profile.the-variants.{Strict}

@@ -7,14 +7,14 @@ use mathlib.Core.List.{List, [], _∷_, _++_}
 use borrow.Author.Tests.{le-leb, leb-true}
 use lib.Dec.{leb}
 use lib.ListN.{length, getD}
-use Rattle.text.specs.Permitted.{clean}
+use Rattle.text.specs.Permitted.{clean, sizeLimit}
 use Rattle.amount.proofs.RowCounts.{refusalKind}
 use Rattle.row.specs.declared.table.Row.{Row}
 use Rattle.row.specs.Row.{feeds}
 use Rattle.row.specs.Strings.{isStart}
 use Rattle.entry.specs.Lost.{whole}
 use Rattle.entry.proofs.EntryCut.{Ends}
-use Rattle.ledger.specs.Plain.{moved, accepted, denied, readFrom, partAt, part, plain, sizeLimit}
+use Rattle.ledger.specs.Plain.{moved, accepted, denied, readFrom, partAt, part, plain}
 use Rattle.ledger.specs.Strict.{firstRefused, judged, partBy, readingBy}
 use Rattle.ledger.specs.declared.scan.Profile.{Profile}
 use Rattle.ledger.specs.declared.scan.Profile.the-variants.{Plain, Strict}
@@ -59,7 +59,7 @@ by-some Strict (b ∷ x) k q e = omega arith
 
 plain-part : (s : List ℕ) → length s ≤ sizeLimit → plain s ≡ part s
 unfolding plain
-plain-part s h = rw (le-leb (length s) 16777216 h)
+plain-part s h = rw (le-leb (length s) sizeLimit h)
 
 pub by-part : (K : Profile) (s : List ℕ) → length s ≤ sizeLimit → readingBy K s ≡ partBy K s
 by-part Plain s h = plain-part s h
@@ -68,10 +68,10 @@ by-part Strict s h = ap (judged s) (plain-part s h)
 -- a larger ledger is refused
 plain-size : (s : List ℕ) (rs : List Row) → plain s ≡ accepted rs → length s ≤ sizeLimit
 unfolding plain
-plain-size s rs e = go (leb (length s) 16777216) refl e
+plain-size s rs e = go (leb (length s) sizeLimit) refl e
   where
-    go : (t : Bool) → leb (length s) 16777216 ≡ t → cond t (part s) (denied 1 0) ≡ accepted rs → length s ≤ 16777216
-    go true q e = leb-true (length s) 16777216 q
+    go : (t : Bool) → leb (length s) sizeLimit ≡ t → cond t (part s) (denied 1 0) ≡ accepted rs → length s ≤ sizeLimit
+    go true q e = leb-true (length s) sizeLimit q
     go false q e = absurd (let z : _≡_ {A = ℕ} 0 1 = cc in omega arith)
 
 pub by-size : (K : Profile) (s : List ℕ) (rs : List Row) → readingBy K s ≡ accepted rs → length s ≤ sizeLimit

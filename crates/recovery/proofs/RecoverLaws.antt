@@ -6,6 +6,7 @@ use mathlib.Core.List.{List, map}
 use borrow.Author.Tests.{le-leb, lt-leb}
 use borrow.Rule.Slice.PartMut.{putMid}
 use lib.ListN.{length, take, drop, length-map}
+use Rattle.text.specs.Permitted.{sizeLimit}
 use Rattle.amount.proofs.RowCounts.{refusalKind}
 use Rattle.row.specs.declared.table.Row.{Row}
 use Rattle.row.specs.Row.{pour}
@@ -24,10 +25,10 @@ use Rattle.recovery.proofs.BlocksLaws.{recover-kept}
 module _ (K : Profile) where
   -- ---- refusal 1
 
-  module _ (s : List ℕ) (h : 16777216 < length s) where
+  module _ (s : List ℕ) (h : sizeLimit < length s) where
     recovered-large : recoveredBy K s ≡ denied 1 0
     unfolding recoveredBy
-    recovered-large = rw (lt-leb (length s) 16777216 h)
+    recovered-large = rw (lt-leb (length s) sizeLimit h)
 
     pub large-answer : (room : ℕ) → Answer.Refusal 1 0 0 ≡ answer (recoveredBy K s) room
     unfolding answer
@@ -39,13 +40,13 @@ module _ (K : Profile) where
 
   -- ---- n rows are wanted
 
-  module _ (s : List ℕ) (l : length s ≤ 16777216) (n : ℕ) (e : n ≡ length (unlined K s)) (t : List ℕ) where
+  module _ (s : List ℕ) (l : length s ≤ sizeLimit) (n : ℕ) (e : n ≡ length (unlined K s)) (t : List ℕ) where
     abbrev all-rows : List Row
     all-rows = recoverBy K (length s) 0 0 s
 
     recovered-rows : recoveredBy K s ≡ accepted all-rows
     unfolding recoveredBy
-    recovered-rows = rw (le-leb (length s) 16777216 l)
+    recovered-rows = rw (le-leb (length s) sizeLimit l)
 
     wanted : n ≡ length all-rows
     unfolding unlined

@@ -14,11 +14,12 @@ use lib.Dec.{eqb}
 use lib.IntN.{pos}
 use lib.ListN.{length, drop}
 use Rattle.text.specs.Bytes.{isDigit, isSmall}
+use Rattle.text.specs.Permitted.{sizeLimit}
 use Rattle.row.specs.declared.table.Row.{Row}
 use Rattle.row.specs.Row.{rowOf, rowsBytes, width, feeds}
 use Rattle.row.specs.Strings.{holds}
 use Rattle.entry.specs.Lost.{whole}
-use Rattle.ledger.specs.Plain.{moved, accepted, denied, sizeLimit}
+use Rattle.ledger.specs.Plain.{moved, accepted, denied}
 use Rattle.ledger.specs.Strict.{readingBy}
 use Rattle.ledger.specs.Answers.{answer, left}
 use Rattle.ledger.specs.declared.read.Answer.{Answer}

@@ -11,6 +11,7 @@ use text::run::Class;
 ghost use mathlib.Core.Path.{_≡_};
 ghost use Prim.Native.Nat.{_+_, _≤_};
 ghost use lib.ListN.{length};
+ghost use Rattle.text.specs.Permitted.{sizeLimit};
 ghost use Rattle.row.specs.Strings.{isStart};
 ghost use Rattle.recovery.specs.Recovering.{blockLength};
 ghost use Rattle.recovery.specs.steps.Front.{unlinedBlock, Front};
@@ -43,7 +44,7 @@ pub fn block_length(s: &[u8]) -> usize
 // Reads the block s, which starts at place `base`; its rows, or the row of its refusal, go to the table's front, where they all fit, with no lines
 // yet. What stands behind them in the table may change too.
 pub fn block(s: &[u8], base: usize, table: &mut [u8], profile: Profile) -> usize
-    requires { ⌜ base + length (now s) ≤ 16777216 ⌝ }
+    requires { ⌜ base + length (now s) ≤ sizeLimit ⌝ }
     ensures answer { λ r. ⌜ r ≡ length (unlinedBlock profile base (now (s .entry))) ⌝ }
     ensures rows { λ _. ⌜ Front (unlinedBlock profile base (now (s .entry))) (now (table .entry)) (now (table .exit)) ⌝ }
 {

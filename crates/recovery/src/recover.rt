@@ -1,21 +1,22 @@
 // Recovering reading. The first pass, into no table, gives the need; the second writes.
 use crate::block;
 use ledger::read::Answer;
-use ledger::read::SIZE;
 use ledger::scan::Profile;
 use row::lines;
 use row::table;
 use row::table::WIDTH;
+use text::permitted::SIZE;
 ghost use mathlib.Core.Path.{_≡_};
 ghost use Prim.Native.Nat.{_/_, _≤_};
 ghost use lib.ListN.{length};
+ghost use Rattle.text.specs.Permitted.{sizeLimit};
 ghost use Rattle.ledger.specs.Answers.{answer, left};
 ghost use Rattle.recovery.specs.Recovering.{recoveredBy, recovered, recoveredStrictly};
 ghost use Rattle.recovery.specs.steps.Front.{unlined, Front};
 
 // Block by block: so many rows, which go to the table's front, where they all fit, with no lines yet. What stands behind them may change too.
 fn blocks(s: &[u8], table: &mut [u8], profile: Profile) -> usize
-    requires { ⌜ length (now s) ≤ 16777216 ⌝ }
+    requires { ⌜ length (now s) ≤ sizeLimit ⌝ }
     ensures answer { λ r. ⌜ r ≡ length (unlined profile (now (s .entry))) ⌝ }
     ensures rows { λ _. ⌜ Front (unlined profile (now (s .entry))) (now (table .entry)) (now (table .exit)) ⌝ }
 {

@@ -8,6 +8,7 @@ use mathlib.Core.List.{List, [], _∷_, _++_}
 use lib.Dec.{eqb, ltb, leb}
 use lib.ListN.{length, length-append, length-take, length-drop}
 use Rattle.text.specs.Bytes.{bytes}
+use Rattle.text.specs.Permitted.{sizeLimit}
 use Rattle.amount.specs.Literal.{between}
 use Rattle.row.specs.declared.table.Row.{Row}
 use Rattle.ledger.proofs.Places.{Every}
@@ -173,13 +174,13 @@ unfolding meaning
 items-long s [] = refl
 items-long s (r ∷ rs) = ap suc (items-long s rs)
 
-pub written-le : (s : List ℕ) (rs : List Row) → length s ≤ 16777216 → length rs ≤ 16777216 → length (written s rs) ≤ 18446744073709551615
+pub written-le : (s : List ℕ) (rs : List Row) → length s ≤ sizeLimit → length rs ≤ sizeLimit → length (written s rs) ≤ 18446744073709551615
 unfolding written
 written-le s rs h k =
     let a = printed-le (length s) 0 noItem (meaning s rs) (record { text = omega arith; other = omega arith }) (light-items s rs) in
     big (length s) (length rs) _ (subst (λ (z : ℕ). length (printed 0 noItem (meaning s rs)) ≤ 1 + z * (length s + length s + 60)) (items-long s rs) a) h k
   where
-    big : (n c x : ℕ) → x ≤ 1 + c * (n + n + 60) → n ≤ 16777216 → c ≤ 16777216 → x ≤ 18446744073709551615
+    big : (n c x : ℕ) → x ≤ 1 + c * (n + n + 60) → n ≤ sizeLimit → c ≤ sizeLimit → x ≤ 18446744073709551615
     big n c x p h k =
-        let m : c * (n + n + 60) ≤ 16777216 * (n + n + 60) = mul-le-mul-right (n + n + 60) k in
+        let m : c * (n + n + 60) ≤ sizeLimit * (n + n + 60) = mul-le-mul-right (n + n + 60) k in
         omega arith

@@ -10,6 +10,7 @@ use lib.ListN.{length, drop, length-append}
 use lib.Seq.{drop-at}
 use mir.Syntax.{w64}
 use mir.Val.{Fits}
+use Rattle.text.specs.Permitted.{sizeLimit}
 use Rattle.row.specs.declared.table.Row.{Row}
 use Rattle.row.specs.Row.{rowsBytes, rowsIn}
 use Rattle.row.specs.Work.{cleared}
@@ -47,10 +48,10 @@ rows-are w rs h = rows-front rs w ∙ all-whole rs h
 
 -- ---- the answers
 
-plain-size : (s : List ℕ) (rs : List Row) → plain s ≡ accepted rs → length s ≤ 16777216
+plain-size : (s : List ℕ) (rs : List Row) → plain s ≡ accepted rs → length s ≤ sizeLimit
 plain-size s rs e = plain-reads s rs e .0
 
-plain-few : (s : List ℕ) (rs : List Row) → plain s ≡ accepted rs → length rs ≤ 16777216
+plain-few : (s : List ℕ) (rs : List Row) → plain s ≡ accepted rs → length rs ≤ sizeLimit
 unfolding scanned
 plain-few s rs e =
     let k : Kept refusalKind 0 1 s rs = subst (Accepts (Kept refusalKind 0 1 s)) (plain-reads s rs e .2) (read-kept (length s) 0 1 s) in

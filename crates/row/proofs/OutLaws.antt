@@ -1,5 +1,5 @@
 -- Laws of what the row writer holds, and of details that were written.
-use Prim.Native.Nat.{ℕ, _+_, _≤_}
+use Prim.Native.Nat.{ℕ, _+_}
 use native.Mathlib.Nat.{add-zero}
 use native.Mathlib.Omega.{arith}
 use mathlib.Core.Path.{_≡_, refl, sym, _∙_, ap, subst}
@@ -13,7 +13,7 @@ use Rattle.decimal.specs.declared.Value.the-variants.{Known, Refused}
 use Rattle.amount.specs.declared.detail.Detail.{Detail}
 use Rattle.row.specs.Row.{pourAt}
 use Rattle.row.specs.Details.{laid}
-use Rattle.row.specs.steps.Writing.{noted, outs, someRow, Poured}
+use Rattle.row.specs.steps.Writing.{noted, outs, someRow, Poured, Room}
 use Rattle.row.specs.declared.table.Row.{Row}
 use Rattle.row.specs.declared.writer.Out.{Out}
 use Rattle.row.proofs.PourLaws.{pourAt-none, pourAt-append, pourAt-over}
@@ -115,7 +115,7 @@ module _ (base : ℕ) (o : Out) (t : List ℕ) where
   )
 
 -- there is room for another row
-pub noted-room : (o m : Out) (d : Detail) → m ≡ noted o d → o .rows ≤ 33554431 → m .rows ≤ 33554432
+pub noted-room : (o m : Out) (d : Detail) → m ≡ noted o d → Room 2 o → Room 1 m
 noted-room o m d e h = omega (arith, ap (λ (z : Out). z .rows) e, rows-noted o d)
 
 -- ---- a row, and another, if it is one: p is held after the first, v is the table then

@@ -9,9 +9,10 @@ ghost use mathlib.Core.Path.{_≡_};
 ghost use mathlib.Core.List.{[], _∷_, map};
 ghost use Prim.Native.Nat.{_+_, _≤_};
 ghost use Rattle.decimal.specs.Exact.{twosOf};
+ghost use Rattle.text.specs.Permitted.{sizeLimit};
 ghost use Rattle.row.specs.Row.{rowBytes, pourAt};
 ghost use Rattle.row.specs.Details.{spanned, millionths, laid, valuePlace};
-ghost use Rattle.row.specs.steps.Writing.{noted, outs, someRow};
+ghost use Rattle.row.specs.steps.Writing.{noted, outs, someRow, Room, Writable};
 
 // So many rows are there; one plus the number of the first refused value, 0 for none, and its place.
 pub struct Out {
@@ -56,7 +57,7 @@ fn value_bits(v: Value) -> usize
 
 // The row of a detail of an entry that starts at `base`: the low four bytes of each place are as they should be.
 fn row_of(x: Detail, base: usize) -> Row
-    requires { ⌜ base ≤ 16777216 ⌝ }
+    requires { ⌜ base ≤ sizeLimit ⌝ }
     ensures { λ r. ⌜ rowBytes r ≡ rowBytes (laid base x) ⌝ }
 {
     let kind = x.kind;
@@ -99,7 +100,7 @@ fn value_place(x: Detail) -> usize
 
 // One row more; the first refused value is kept.
 fn note(out: Out, x: Detail) -> Out
-    requires { ⌜ out .rows ≤ 33554432 ⌝ }
+    requires { ⌜ Room 1 out ⌝ }
     ensures { λ r. ⌜ r ≡ noted out x ⌝ }
 {
     let rows = out.rows + 1;
@@ -124,7 +125,7 @@ fn note(out: Out, x: Detail) -> Out
 
 // A detail of the entry that starts at `base` is written, where there is room for it.
 pub fn emit(table: &mut [u8], base: usize, out: Out, x: Detail) -> Out
-    requires { ⌜ (base ≤ 16777216) × (out .rows ≤ 33554432) ⌝ }
+    requires { ⌜ Writable 1 base out ⌝ }
     ensures answer { λ r. ⌜ r ≡ noted out x ⌝ }
     ensures rows { λ _. ⌜ now (table .exit) ≡ pourAt (out .rows) (laid base x ∷ []) (now (table .entry)) ⌝ }
 {
@@ -138,7 +139,7 @@ pub fn emit(table: &mut [u8], base: usize, out: Out, x: Detail) -> Out
 
 // A row, and another, if it is one.
 pub fn emit_with(table: &mut [u8], base: usize, out: Out, x: Detail, n: Detail) -> Out
-    requires { ⌜ (base ≤ 16777216) × (out .rows ≤ 33554431) ⌝ }
+    requires { ⌜ Writable 2 base out ⌝ }
     ensures answer { λ r. ⌜ r ≡ outs out (x ∷ someRow n) ⌝ }
     ensures rows { λ _. ⌜ now (table .exit) ≡ pourAt (out .rows) (map (laid base) (x ∷ someRow n)) (now (table .entry)) ⌝ }
 {

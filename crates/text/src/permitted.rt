@@ -1,10 +1,13 @@
-// The bytes that a ledger may hold (refusal 2).
+// How many bytes a ledger may have (refusal 1), and which (refusal 2).
 use crate::bytes;
 ghost use mathlib.Core.Path.{_≡_};
 ghost use Prim.Native.Nat.{_+_, _≤_, _<_, min};
 ghost use lib.ListN.{length, getD, take, drop};
 ghost use Rattle.text.specs.Permitted.{permitted, clean};
 ghost use Rattle.text.specs.steps.Stretch.{cleanEnd, isPlain, allPlain};
+
+// A ledger's bytes at the most.
+pub const SIZE: usize = 16_777_216;
 
 // The bytes that are looked at together.
 const CHUNK: usize = 64;

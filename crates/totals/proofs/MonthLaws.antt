@@ -6,6 +6,7 @@ use mathlib.Core.List.{List, [], _∷_, _++_, append-assoc, append-nil}
 use mir.Syntax.{w64}
 use mir.Val.{Fits}
 use lib.ListN.{length, length-append}
+use Rattle.text.specs.Permitted.{sizeLimit}
 use Rattle.row.specs.declared.table.Row.{Row}
 use Rattle.row.specs.Row.{pour, pourAt}
 use Rattle.row.specs.steps.Holding.{Held}
@@ -26,7 +27,7 @@ pub record Passed (s : List ℕ) (y m : ℕ) (c : Cursor) (n : ℕ) : Type 0 whe
   pub held : AllHeld found
   pub count : n ≡ length found
   pub few : n ≤ c .at
-  pub small : length s ≤ 16777216
+  pub small : length s ≤ sizeLimit
 
 -- and were put into the table t, which was u
 pub record Putting (s : List ℕ) (y m : ℕ) (u : List ℕ) (c : Cursor) (n : ℕ) (t : List ℕ) : Type 0 where
@@ -56,7 +57,7 @@ module _ (s : List ℕ) (y m : ℕ) where
   put-start u A = record { passed = pass-start A; table = refl }
 
   module _ (c : Cursor) (n : ℕ) (P : Passed s y m c n) where
-    pub pass-room : (length s ≤ 16777216) × Standing (dated y m) s c
+    pub pass-room : (length s ≤ sizeLimit) × Standing (dated y m) s c
     pass-room = (P .small, P .standing)
 
     module _ (t : Turn) (T : Turned (dated y m) s c t) where
@@ -122,7 +123,7 @@ module _ (s : List ℕ) (y m : ℕ) where
         pub pass-done : n ≡ length (monthPostings s y m)
         pass-done = P .count ∙ ap length (sym ended)
 
-        pub done-few : n ≤ 16777216
+        pub done-few : n ≤ sizeLimit
         done-few = omega (arith, P .few, P .standing .stands .inside, P .small)
 
         pub done-held : AllHeld (monthPostings s y m)
@@ -139,7 +140,7 @@ module _ (s : List ℕ) (y m : ℕ) (u : List ℕ) (c : Cursor) (n : ℕ) (t : L
   pub putting-length : length t ≡ length u
   putting-length = ap length (Q .table) ∙ length-pour (Q .passed .found) u
 
-  pub putting-room : (length s ≤ 16777216) × Standing (dated y m) s c
+  pub putting-room : (length s ≤ sizeLimit) × Standing (dated y m) s c
   putting-room = pass-room s y m c n (Q .passed)
 
   module _ (r : Turn) (T : Turned (dated y m) s c r) where

@@ -6,7 +6,7 @@ use walk::step::Turn;
 ghost use mathlib.Core.Path.{_≡_};
 ghost use Prim.Native.Nat.{_≤_};
 ghost use lib.ListN.{length};
-ghost use Rattle.ledger.specs.Plain.{sizeLimit};
+ghost use Rattle.text.specs.Permitted.{sizeLimit};
 ghost use Rattle.row.specs.Row.{pour};
 ghost use Rattle.totals.specs.steps.Months.{Accepted, AllHeld, monthPostings};
 

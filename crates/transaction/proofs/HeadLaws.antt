@@ -22,7 +22,7 @@ use Rattle.amount.specs.Details.{Rows, span}
 use Rattle.amount.specs.declared.detail.Detail.{Detail}
 use Rattle.row.specs.Row.{pourAt}
 use Rattle.row.specs.Details.{laid}
-use Rattle.row.specs.steps.Writing.{noted, Did}
+use Rattle.row.specs.steps.Writing.{noted, Did, Room}
 use Rattle.row.specs.declared.writer.Out.{Out}
 use Rattle.row.specs.declared.writer.Ran.{Ran}
 use Rattle.row.proofs.OutLaws.{rows-noted, wrote-none, wrote-one, wrote-then, poured-none}
@@ -206,7 +206,7 @@ module _ (base : ℕ) (o : Out) (t : List ℕ) (s : List ℕ) (a e : ℕ) (x : G
       (wrote-one base o t D m u hm hu)
 
 -- room for the second row
-pub second-room : (o m : Out) (d : Detail) → m ≡ noted o d → o .rows ≤ 33554431 → m .rows ≤ 33554432
+pub second-room : (o m : Out) (d : Detail) → m ≡ noted o d → Room 2 o → Room 1 m
 second-room o m d p h = omega (arith, ap (λ (x : Out). x .rows) p, rows-noted o d)
 
 pub ruleset second-laws = (spaced-fits, spaced-takes, second-two, second-one, second-room)

@@ -23,13 +23,13 @@ ghost use Rattle.amount.specs.Details.{span};
 ghost use Rattle.amount.specs.steps.Answers.{oneOf};
 ghost use Rattle.row.specs.Row.{pourAt};
 ghost use Rattle.row.specs.Details.{laid};
-ghost use Rattle.row.specs.steps.Writing.{noted, Did};
+ghost use Rattle.row.specs.steps.Writing.{noted, Did, Writable, Readable};
 ghost use Rattle.transaction.specs.Transaction.{opening, mark, marks, transaction};
 ghost use Rattle.transaction.specs.steps.Heads.{txnRan, linkMark, gapString, secondText, textsOf, markedOf, textedOf, headOf};
 
 // A row that spans a text.
 fn emit_span(kind: usize, start: usize, end: usize, base: usize, table: &mut [u8], out: Out) -> Out
-    requires { ⌜ (base ≤ 16777216) × (out .rows ≤ 33554432) ⌝ }
+    requires { ⌜ Writable 1 base out ⌝ }
     ensures answer { λ r. ⌜ r ≡ noted out (span kind start end) ⌝ }
     ensures rows { λ _. ⌜ now (table .exit) ≡ pourAt (out .rows) (laid base (span kind start end) ∷ []) (now (table .entry)) ⌝ }
 {
@@ -49,7 +49,7 @@ fn txn_at(s: &[u8], at: usize, out: Out) -> Ran
 
 // A flag, any byte that is no small letter, or `txn`.
 fn opening_at(s: &[u8], at: usize, base: usize, table: &mut [u8], out: Out) -> Ran
-    requires { ⌜ (base ≤ 16777216) × (out .rows ≤ 33554432) ⌝ }
+    requires { ⌜ Writable 1 base out ⌝ }
     ensures { λ r. ⌜ Did base (opening (now (s .entry)) at) out (now (table .entry)) (now (table .exit)) r ⌝ }
 {
     if at < s.len() {
@@ -91,7 +91,7 @@ fn gap_string(s: &[u8], at: usize) -> GapString
 
 // After a first string that spans a to e with its quotes: optionally gap and a second; then the first is the payee.
 fn second_text(s: &[u8], a: usize, e: usize, base: usize, table: &mut [u8], out: Out) -> Ran
-    requires { ⌜ (base ≤ 16777216) × (out .rows ≤ 33554431) × (a < length (now s)) × (1 ≤ e) ⌝ }
+    requires { ⌜ Writable 2 base out × (a < length (now s)) × (1 ≤ e) ⌝ }
     ensures { λ r. ⌜ Did base (secondText (now (s .entry)) a e) out (now (table .entry)) (now (table .exit)) r ⌝ }
 {
     let x = gap_string(s, e);
@@ -110,7 +110,7 @@ fn second_text(s: &[u8], a: usize, e: usize, base: usize, table: &mut [u8], out:
 
 // Optionally gap and string, and optionally gap and a second.
 fn texts_at(s: &[u8], at: usize, base: usize, table: &mut [u8], out: Out) -> Ran
-    requires { ⌜ (base ≤ 16777216) × (out .rows ≤ 33554431) ⌝ }
+    requires { ⌜ Writable 2 base out ⌝ }
     ensures { λ r. ⌜ Did base (textsOf (now (s .entry)) at) out (now (table .entry)) (now (table .exit)) r ⌝ }
 {
     let x = gap_string(s, at);
@@ -144,7 +144,7 @@ fn mark_at(s: &[u8], at: usize) -> One
 
 // Tags and links.
 fn marks_at(s: &[u8], at: usize, base: usize, table: &mut [u8], out: Out) -> Ran
-    requires { ⌜ (base ≤ 16777216) × (length (now s) ≤ 16777216) × (at ≤ length (now s)) × (out .rows ≤ at) ⌝ }
+    requires { ⌜ Readable base (now s) at out ⌝ }
     ensures { λ r. ⌜ Did base (marks (now (s .entry)) at) out (now (table .entry)) (now (table .exit)) r ⌝ }
 {
     let mut i = at;
@@ -165,7 +165,7 @@ fn marks_at(s: &[u8], at: usize, base: usize, table: &mut [u8], out: Out) -> Ran
 
 // After the strings: tags and links, line end (required), metadata.
 fn marked_at(s: &[u8], at: usize, base: usize, table: &mut [u8], out: Out) -> Ran
-    requires { ⌜ (base ≤ 16777216) × (length (now s) ≤ 16777216) × (at ≤ length (now s)) × (out .rows ≤ at) ⌝ }
+    requires { ⌜ Readable base (now s) at out ⌝ }
     ensures { λ r. ⌜ Did base (markedOf (now (s .entry)) at) out (now (table .entry)) (now (table .exit)) r ⌝ }
 {
     let m = marks_at(s, at, base, table, out);
@@ -184,7 +184,7 @@ fn marked_at(s: &[u8], at: usize, base: usize, table: &mut [u8], out: Out) -> Ra
 
 // After the opening: strings, tags and links, line end, metadata.
 fn texted_at(s: &[u8], at: usize, base: usize, table: &mut [u8], out: Out) -> Ran
-    requires { ⌜ (base ≤ 16777216) × (length (now s) ≤ 16777216) × (at ≤ length (now s)) × (out .rows ≤ at) ⌝ }
+    requires { ⌜ Readable base (now s) at out ⌝ }
     ensures { λ r. ⌜ Did base (textedOf (now (s .entry)) at) out (now (table .entry)) (now (table .exit)) r ⌝ }
 {
     let x = texts_at(s, at, base, table, out);
@@ -197,7 +197,7 @@ fn texted_at(s: &[u8], at: usize, base: usize, table: &mut [u8], out: Out) -> Ra
 
 // A transaction up to its postings.
 pub fn head_at(s: &[u8], at: usize, base: usize, table: &mut [u8], out: Out) -> Ran
-    requires { ⌜ (base ≤ 16777216) × (length (now s) ≤ 16777216) × (at ≤ length (now s)) × (out .rows ≤ at) ⌝ }
+    requires { ⌜ Readable base (now s) at out ⌝ }
     ensures { λ r. ⌜ Did base (headOf (now (s .entry)) at) out (now (table .entry)) (now (table .exit)) r ⌝ }
 {
     let x = opening_at(s, at, base, table, out);
@@ -210,7 +210,7 @@ pub fn head_at(s: &[u8], at: usize, base: usize, table: &mut [u8], out: Out) -> 
 
 // Rule 11.
 pub fn transaction_at(s: &[u8], at: usize, base: usize, table: &mut [u8], out: Out) -> Ran
-    requires { ⌜ (base ≤ 16777216) × (length (now s) ≤ 16777216) × (at ≤ length (now s)) × (out .rows ≤ at) ⌝ }
+    requires { ⌜ Readable base (now s) at out ⌝ }
     ensures { λ r. ⌜ Did base (transaction (now (s .entry)) at) out (now (table .entry)) (now (table .exit)) r ⌝ }
 {
     let x = head_at(s, at, base, table, out);

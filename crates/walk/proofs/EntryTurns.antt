@@ -19,6 +19,7 @@ use Rattle.text.specs.declared.date.Dated.{Dated}
 use Rattle.text.specs.Bytes.{isBlank}
 use Rattle.text.proofs.Joins.{Reach}
 use Rattle.text.proofs.TokenEnds.{run-reach, date-reach}
+use Rattle.text.specs.Permitted.{sizeLimit}
 use Rattle.amount.specs.declared.detail.Detail.{Detail}
 use Rattle.row.specs.declared.table.Row.{Row}
 use Rattle.row.specs.declared.writer.Out.{Out}
@@ -206,7 +207,7 @@ module _ (s : List ℕ) (at : ℕ) where
       next-ends : (0 < n) × (at + n ≤ length s)
       next-ends = omega (arith, entry-sound (drop at s) n (en .0) (en .1), length-drop at s)
 
-      pub next-fits : length s ≤ 16777216 → Fits w64 (at + n)
+      pub next-fits : length s ≤ sizeLimit → Fits w64 (at + n)
       next-fits m = record { fits = omega (arith, next-ends) }
 
       -- behind an entry that is not wanted
@@ -258,7 +259,7 @@ module _ (s : List ℕ) (at : ℕ) where
               let r = subst (Reach (length (drop at s)) g) (pt .head) (head-reach (drop at s) g (tx .inside)) .ends in
               (omega (arith, r, end-is, behind-date (drop at s) (fm .0 .date) (tx .dated)), omega (arith, r, end-is, length-drop at s))
 
-          pub entry-fits : length s ≤ 16777216 → Fits w64 (at + e)
+          pub entry-fits : length s ≤ sizeLimit → Fits w64 (at + e)
           entry-fits m = record { fits = omega (arith, body-ends) }
 
         module _ (wanted : ℕ → Bool) (from : ℕ) (d : ℕ) (ed : d ≡ dateOf (dateAt (take (length s - at) (drop at s)) 0)) (b : Bool) (eb : b ≡ wanted d) where

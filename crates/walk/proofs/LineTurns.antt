@@ -8,6 +8,7 @@ use mir.Syntax.{w64}
 use mir.Val.{Fits}
 use lib.ListN.{length, take, drop, length-drop}
 use Rattle.text.specs.Answer.{To, Miss, Hard, _and_, more, maybe, many}
+use Rattle.text.specs.Permitted.{sizeLimit}
 use Rattle.amount.specs.declared.detail.Detail.{Detail}
 use Rattle.amount.specs.Details.{Rows}
 use Rattle.row.specs.declared.table.Row.{Row}
@@ -135,11 +136,11 @@ module _ (wanted : ℕ → Bool) (s : List ℕ) (at from : ℕ) where
         front-ahead from (ys .0) (W .others) (body-front u e (W .end) (ys .0) (step-ends u i e xs inside q .1) (ys .1))
         (rest-starts s (from + W .end) (W .others) (W .rest))
 
-    small : length s ≤ 16777216 → from + length u ≤ 16777216
+    small : length s ≤ sizeLimit → from + length u ≤ sizeLimit
     small l = rw length-drop (omega (arith, W .past, S .inside))
 
   found-of : (e : ℕ) (xs : List Detail) → bodyStep u i ≡ To e xs → (length xs ≡ 0 → ⊥) → (t v : List ℕ) (zs : List Row) → length t ≡ 64
-      → v ≡ pourAt 0 (map (laid from) xs ++ zs) t → length s ≤ 16777216 → (p : Row) → p ≡ postedIn v (length xs)
+      → v ≡ pourAt 0 (map (laid from) xs ++ zs) t → length s ≤ sizeLimit → (p : Row) → p ≡ postedIn v (length xs)
       → Turned wanted s (inner at from) (Turn.Found p (inner (from + e) from))
   found-of e [] q n t v zs lt w l p pe = absurd (n refl)
   found-of e (x ∷ us) q n t v zs lt w l p pe =
@@ -172,7 +173,7 @@ module _ (wanted : ℕ → Bool) (s : List ℕ) (at from : ℕ) where
     step-read : (e : ℕ) (m : Out) → x ≡ Ran.To e m → (e ≡ i → ⊥) → (xs : List Detail) × (bodyStep u i ≡ To e xs) × ((m ≡ outs o xs) × Poured (o .rows) (map (laid from) xs) t v)
     step-read e m q n = let z = was-read from o t v x (many (bodyStep u) 1 i) e m did q in (z .0, one-step (bodyStep u) i e (z .0) (z .1) n, z .2)
 
-    pub line-fits : (e : ℕ) (m : Out) → x ≡ Ran.To e m → (e ≡ i → ⊥) → Standing wanted s (inner at from) → length s ≤ 16777216 → Fits w64 (from + e)
+    pub line-fits : (e : ℕ) (m : Out) → x ≡ Ran.To e m → (e ≡ i → ⊥) → Standing wanted s (inner at from) → length s ≤ sizeLimit → Fits w64 (from + e)
     line-fits e m q n S l =
         let z = step-read e m q n in
         record { fits = omega (arith, ends e (z .0) (z .1) (S .these) (S .stands)) }
@@ -189,7 +190,7 @@ module _ (wanted : ℕ → Bool) (s : List ℕ) (at from : ℕ) where
               (subst (Stands wanted s (inner (from + e) from)) (sym w) (on e (z .0) (z .1) ps S), omega (arith, b), omega (arith, b));
         }
 
-    pub line-found : (e : ℕ) (m : Out) → x ≡ Ran.To e m → (e ≡ i → ⊥) → (m .rows ≡ 0 → ⊥) → length t ≡ 64 → length s ≤ 16777216 → (p : Row) → p ≡ postedIn v (m .rows)
+    pub line-found : (e : ℕ) (m : Out) → x ≡ Ran.To e m → (e ≡ i → ⊥) → (m .rows ≡ 0 → ⊥) → length t ≡ 64 → length s ≤ sizeLimit → (p : Row) → p ≡ postedIn v (m .rows)
         → Turned wanted s (inner at from) (Turn.Found p (inner (from + e) from))
     line-found e m q b k lt l p pe =
         let z = step-read e m q b in
@@ -236,7 +237,7 @@ module _ (wanted : ℕ → Bool) (s : List ℕ) (at from : ℕ) where
     line-none q = absurd (never-miss (bodyStep u) i (was-miss from o t v x (many (bodyStep u) 1 i) did q .0))
 
   -- what the step and what it is lent need
-  module _ (l : length s ≤ 16777216) (S : Standing wanted s (inner at from)) where
+  module _ (l : length s ≤ sizeLimit) (S : Standing wanted s (inner at from)) where
     pub line-past : from ≤ at
     line-past = S .stands .comes .past
 
@@ -244,7 +245,7 @@ module _ (wanted : ℕ → Bool) (s : List ℕ) (at from : ℕ) where
     line-inside = omega (arith, S .stands .comes .past, S .stands .inside)
 
     pub line-room : (n : ℕ) → n ≡ 0
-        → (from ≤ 16777216) × (length (take (length s - from) (drop from s)) ≤ 16777216) × (at - from ≤ length (take (length s - from) (drop from s))) × (n ≤ at - from)
+        → (from ≤ sizeLimit) × (length (take (length s - from) (drop from s)) ≤ sizeLimit) × (at - from ≤ length (take (length s - from) (drop from s))) × (n ≤ at - from)
     line-room n e = rw (rest-of s from) (omega (arith, length-drop from s, S .stands .comes .past, S .stands .inside, e))
 
 pub ruleset line-laws = (line-fits, line-on, line-found, line-end, line-hard, line-none, line-past, line-inside, line-room)

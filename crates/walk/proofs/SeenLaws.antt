@@ -8,6 +8,7 @@ use borrow.Author.Tests.{lt-ltb, le-ltb, eq-eqb, ne-eqb, eqb-true}
 use lib.Dec.{eqb}
 use lib.ListN.{length, take, drop, length-drop}
 use lib.Seq.{drop-at}
+use Rattle.text.specs.Permitted.{sizeLimit}
 use Rattle.amount.specs.declared.detail.Detail.{Detail}
 use Rattle.row.specs.declared.table.Row.{Row}
 use Rattle.row.specs.Row.{rowOf, rowBytes, rowIn, width, pour, pourAt}
@@ -60,7 +61,7 @@ unfolding posting
 posting-bare r [] h = refl
 posting-bare r (x ∷ ys) h = rw (ne-eqb (x .kind) 26 h)
 
-either-low : (b : Bool) (from p n : ℕ) → from + n ≤ 16777216 → p ≤ n → cond b (from + p) p < 4294967296
+either-low : (b : Bool) (from p n : ℕ) → from + n ≤ sizeLimit → p ≤ n → cond b (from + p) p < 4294967296
 either-low true from p n h l = omega arith
 either-low false from p n h l = omega arith
 
@@ -102,7 +103,7 @@ posting-back x y i j k low rs =
 
 -- ---- a posting whose rows were poured into a table of 64 bytes
 
-module _ (from n : ℕ) (small : from + n ≤ 16777216) (x : Detail) where
+module _ (from n : ℕ) (small : from + n ≤ sizeLimit) (x : Detail) where
   abbrev X : Row
   X = laid from x
 

@@ -16,8 +16,8 @@ ghost use Prim.Native.Nat.{_≤_};
 ghost use lib.ListN.{length};
 ghost use Rattle.text.specs.Dates.{dateAt};
 ghost use Rattle.text.specs.Run.{blanks};
+ghost use Rattle.text.specs.Permitted.{sizeLimit};
 ghost use Rattle.transaction.specs.steps.Heads.{headOf};
-ghost use Rattle.ledger.specs.Plain.{sizeLimit};
 ghost use Rattle.walk.specs.Postings.{dated};
 ghost use Rattle.walk.specs.steps.Walks.{dateOf, headEnd, postedIn, outer, inner, Standing, Turned};
 

@@ -4,9 +4,9 @@ use mathlib.Core.Bool.{cond}
 use mathlib.Core.List.{List}
 use lib.Dec.{leb, ltb}
 use lib.ListN.{length}
-use Rattle.text.specs.Permitted.{clean}
+use Rattle.text.specs.Permitted.{clean, sizeLimit}
 use Rattle.amount.specs.declared.expression.Answer.{Answer}
-use Rattle.access.specs.Single.{sizeLimit, valueAnswer}
+use Rattle.access.specs.Single.{valueAnswer}
 use Rattle.access.specs.declared.single.Evaluated.{Evaluated}
 use Rattle.access.specs.declared.single.Judged.{Judged}
 

@@ -5,9 +5,9 @@ use mathlib.Core.Bool.{Bool, true, false, cond, _||_, _&&_}
 use mathlib.Core.List.{List, [], _∷_, _++_}
 use lib.Dec.{eqb, ltb, leb}
 use lib.ListN.{length, take, drop}
+use Rattle.text.specs.Permitted.{sizeLimit}
 use Rattle.row.specs.declared.table.Row.{Row}
 use Rattle.row.specs.Row.{width, rowBytes, rowIn, feeds}
-use Rattle.ledger.specs.Plain.{sizeLimit}
 use Rattle.recovery.specs.Recovering.{recoverFrom}
 use Rattle.edit.specs.Edits.{isBlock, isNew, fieldLimit, distance, shift, grows}
 use Rattle.edit.specs.declared.moves.By.{By}

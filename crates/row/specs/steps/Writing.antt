@@ -1,12 +1,14 @@
 -- What the row writer holds, and what a reader that writes has done.
-use Prim.Native.Nat.{ℕ, _+_}
+use Prim.Native.Nat.{ℕ, _+_, _*_, _≤_}
 use mathlib.Core.Bool.{cond}
 use mathlib.Core.List.{List, [], _∷_, _++_, map}
 use mathlib.Core.Path.{_≡_}
 use lib.Dec.{eqb}
+use lib.ListN.{length}
 use Rattle.decimal.specs.declared.Value.{Value}
 use Rattle.decimal.specs.declared.Value.the-variants.{Known, Refused}
 use Rattle.text.specs.Answer.{Ans, To, Miss, Hard}
+use Rattle.text.specs.Permitted.{sizeLimit}
 use Rattle.amount.specs.declared.detail.Detail.{Detail}
 use Rattle.amount.specs.Details.{Rows}
 use Rattle.row.specs.declared.writer.Out.{Out}
@@ -44,3 +46,21 @@ abbrev pub Did : ℕ → Rows → Out → List ℕ → List ℕ → Ran → Type
 Did base (To e ds) o t u r = (r ≡ Ran.To e (outs o ds)) × Poured (o .rows) (map (laid base) ds) t u
 Did base Miss o t u r = (r ≡ Ran.Miss) × Poured (o .rows) [] t u
 Did base (Hard k p) o t u r = r ≡ Ran.Hard k p
+
+-- ---- what the code asks for, so that places and counts stay small
+
+-- rows are counted up to here: twice the size limit, and one
+abbrev pub rowLimit : ℕ
+rowLimit = 2 * sizeLimit + 1
+
+-- n rows more can be counted
+abbrev pub Room : ℕ → Out → Type 0
+Room n o = o .rows + n ≤ rowLimit
+
+-- an entry that starts within the size limit, and n rows more of it can be counted
+abbrev pub Writable : ℕ → ℕ → Out → Type 0
+Writable n base o = (base ≤ sizeLimit) × Room n o
+
+-- an entry's text, which starts at `base` and is read up to a place in it: no more rows than bytes so far
+abbrev pub Readable : ℕ → List ℕ → ℕ → Out → Type 0
+Readable base s at o = (base ≤ sizeLimit) × (length s ≤ sizeLimit) × (at ≤ length s) × (o .rows ≤ at)
