@@ -1,5 +1,5 @@
 -- Rule 10: the rows of amounts stand in order within their bytes, and are no more than these.
-use Prim.Native.Nat.{ℕ, _+_, _<_}
+use Prim.Native.Nat.{ℕ, _+_, _≤_, _<_}
 use native.Mathlib.Omega.{arith}
 use mathlib.Core.List.{List}
 use lib.ListN.{length}
@@ -32,23 +32,23 @@ module _ (s : List ℕ) where
   unfolding hardGap
   hard-gap-bare at = must-bare at _ (gap-bare s at)
 
-  pub hard-currency-fits : (at : ℕ) → Fits s at (hardCurrency s at)
+  pub hard-currency-fits : (at : ℕ) → at ≤ N → Fits s at (hardCurrency s at)
   unfolding hardCurrency
-  hard-currency-fits at =
-      bare-and N (at + 1) at (must at (currency s at)) _ (must-reach N (at + 1) at _ (currency-reach s at)) (must-bare at _ (currency-bare s at)) (λ e p q.
+  hard-currency-fits at h =
+      bare-and N (at + 1) at (must at (currency s at)) _ (must-reach N (at + 1) at _ h (currency-reach s at)) (must-bare at _ (currency-bare s at)) (λ e p q.
       row-fits at e _ span-filled (omega arith))
 
-  pub hard-amount-fits : {K : Kinds} (k at : ℕ) → Of K k × (k < postingKind) → FitsFrom K s at (hardAmount k s at)
+  pub hard-amount-fits : {K : Kinds} (k at : ℕ) → at ≤ N → Of K k × (k < postingKind) → FitsFrom K s at (hardAmount k s at)
   unfolding hardAmount
-  hard-amount-fits k at h =
-      then-read N (at + 1) at (must at (expression s at)) _ (must-reach N (at + 1) at _ (expression-reach s at)) (λ e v w p₁ q₁.
+  hard-amount-fits k at i h =
+      then-read N (at + 1) at (must at (expression s at)) _ (must-reach N (at + 1) at _ i (expression-reach s at)) (λ e v w p₁ q₁.
       bare-and N (e + 1) at (hardGap s e) _ (hard-gap-reach s e q₁) (hard-gap-bare e) (λ c p₂ q₂.
-      bare-and N (c + 1) at (must c (currency s c)) _ (must-reach N (c + 1) c _ (currency-reach s c)) (must-bare c _ (currency-bare s c)) (λ d p₃ q₃.
+      bare-and N (c + 1) at (must c (currency s c)) _ (must-reach N (c + 1) c _ q₂ (currency-reach s c)) (must-bare c _ (currency-bare s c)) (λ d p₃ q₃.
       row-fits at d _ (valued-filled (λ z. omega arith) q₂ q₃ (read-small s at e v (must-inv at (expression s at) e v w))) (omega arith))))
 
-  pub price-of-fits : (at : ℕ) → Fits s at (priceOf s at)
+  pub price-of-fits : (at : ℕ) → at ≤ N → Fits s at (priceOf s at)
   unfolding priceOf
-  price-of-fits at =
-      and-fits N (at + 1) at (hardCurrency s at) _ (hard-currency-reach s at) (hard-currency-fits at) (λ e p₁ q₁.
+  price-of-fits at h =
+      and-fits N (at + 1) at (hardCurrency s at) _ (hard-currency-reach s at h) (hard-currency-fits at h) (λ e p₁ q₁.
       bare-and N (e + 1) e (hardGap s e) _ (hard-gap-reach s e q₁) (hard-gap-bare e) (λ g p₂ q₂.
-      fits-from g e _ (omega arith) (hard-amount-fits 26 g (omega arith))))
+      fits-from g e _ (omega arith) (hard-amount-fits 26 g q₂ (omega arith))))

@@ -1,4 +1,4 @@
--- Rule 10: where amounts end, and that they do not see what follows a text that ends in a line feed.
+-- Rule 10: where amounts end and refuse, and that they do not see what follows a text that ends in a line feed.
 use Prim.Native.Nat.{ℕ, suc, _+_, _≤_, _<_}
 use mathlib.Core.Path.{_≡_}
 use mathlib.Core.Bool.{true}
@@ -17,7 +17,7 @@ use Rattle.amount.specs.Amounts.{amount, hardGap, hardCurrency, hardAmou
 use Rattle.amount.proofs.ExpressionEnds.{expression-reach}
 use Rattle.amount.proofs.ExpressionSame.{expression-same}
 
--- ---- they end past their start and within the text
+-- ---- they end past their start and within the text, and refuse within it
 
 module _ (s : List ℕ) where
   abbrev N : ℕ
@@ -32,26 +32,26 @@ module _ (s : List ℕ) where
 
   pub hard-gap-reach : (at : ℕ) → at ≤ N → Reach N (at + 1) (hardGap s at)
   unfolding hardGap
-  hard-gap-reach at h = must-reach N (at + 1) at (gap s at) (gap-reach s at h)
+  hard-gap-reach at h = must-reach N (at + 1) at (gap s at) h (gap-reach s at h)
 
-  pub hard-currency-reach : (at : ℕ) → Reach N (at + 1) (hardCurrency s at)
+  pub hard-currency-reach : (at : ℕ) → at ≤ N → Reach N (at + 1) (hardCurrency s at)
   unfolding hardCurrency
-  hard-currency-reach at =
-      and-reach N (at + 1) (at + 1) (must at (currency s at)) _ (must-reach N (at + 1) at (currency s at) (currency-reach s at)) (λ e p q. to-reach N (at + 1) e _ p q)
+  hard-currency-reach at h =
+      and-reach N (at + 1) (at + 1) (must at (currency s at)) _ (must-reach N (at + 1) at (currency s at) h (currency-reach s at)) (λ e p q. to-reach N (at + 1) e _ p q)
 
-  pub hard-amount-reach : (k at : ℕ) → Reach N (at + 1) (hardAmount k s at)
+  pub hard-amount-reach : (k at : ℕ) → at ≤ N → Reach N (at + 1) (hardAmount k s at)
   unfolding hardAmount
-  hard-amount-reach k at =
-      then-reach N (at + 1) (at + 1) (must at (expression s at)) _ (must-reach N (at + 1) at _ (expression-reach s at)) (λ e v p q.
+  hard-amount-reach k at h =
+      then-reach N (at + 1) (at + 1) (must at (expression s at)) _ (must-reach N (at + 1) at _ h (expression-reach s at)) (λ e v p q.
       and-reach N (e + 1) (at + 1) (hardGap s e) _ (hard-gap-reach e q) (λ c p₂ q₂.
-      and-reach N (c + 1) (at + 1) (must c (currency s c)) _ (must-reach N (c + 1) c _ (currency-reach s c)) (λ d p₃ q₃. to-reach N (at + 1) d _ (omega arith) q₃)))
+      and-reach N (c + 1) (at + 1) (must c (currency s c)) _ (must-reach N (c + 1) c _ q₂ (currency-reach s c)) (λ d p₃ q₃. to-reach N (at + 1) d _ (omega arith) q₃)))
 
-  pub price-of-reach : (at : ℕ) → Reach N (at + 1) (priceOf s at)
+  pub price-of-reach : (at : ℕ) → at ≤ N → Reach N (at + 1) (priceOf s at)
   unfolding priceOf
-  price-of-reach at =
-      and-reach N (at + 1) (at + 1) (hardCurrency s at) _ (hard-currency-reach at) (λ e p q.
+  price-of-reach at h =
+      and-reach N (at + 1) (at + 1) (hardCurrency s at) _ (hard-currency-reach at h) (λ e p q.
       and-reach N (e + 1) (at + 1) (hardGap s e) _ (hard-gap-reach e q) (λ g p₂ q₂.
-      reach-from N (g + 1) (at + 1) (hardAmount 26 s g) (omega arith) (hard-amount-reach 26 g)))
+      reach-from N (g + 1) (at + 1) (hardAmount 26 s g) (omega arith) (hard-amount-reach 26 g q₂)))
 
 -- ---- they are the same on both texts
 

@@ -1,4 +1,5 @@
--- Where rule 8's forms end: past their start, and within the text. So as many turns as there are bytes are enough.
+-- Where rule 8's forms end: past their start, and within the text, where a group that opens too deep stands too. So as
+-- many turns as there are bytes are enough.
 use Prim.Native.Nat.{ℕ, zero, suc, _+_, _-_, _≤_, _<_}
 use mathlib.Core.Path.{_≡_, refl, sym, ap, subst}
 use mathlib.Core.Bool.{Bool, true, false, cond}
@@ -150,7 +151,8 @@ module _ (s : List ℕ) where
 
   pub group-reach : (calc : Arithmetic) (n at : ℕ) → Reach N (at + 1) (group calc n s at)
   unfolding group
-  group-reach calc zero at = if-reach N (at + 1) (eqb (getD s at 0) 40) (Hard 3 at) (λ _. hard-reach N (at + 1) 3 at)
+  group-reach calc zero at = if-reach N (at + 1) (eqb (getD s at 0) 40) (Hard 3 at)
+      (λ t. let w = byte-within s at 40 (sym (eqb-true _ 40 t)) (omega arith) in hard-reach N (at + 1) 3 at (omega arith))
   group-reach calc (suc n) at =
       let i = blanks s (at + 1) in
       if-reach N (at + 1) (eqb (getD s at 0) 40) (inGroup calc (group calc n s) s i then closed s)

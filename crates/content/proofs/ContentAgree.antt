@@ -148,9 +148,9 @@ module _ (front t : List ℕ) (b : ℕ) (B : starts b ≡ true) where
   pub event-of-agree : (at : ℕ) → at < M → Agrees M M false (eventOf S at) (eventOf X at)
   unfolding eventOf
   event-of-agree at h =
-      and-loose N (hard-string-agree at h) (hard-string-reach S at)
+      and-loose N (hard-string-agree at h) (hard-string-reach S at (omega (arith, longer front t b B)))
       (λ a _ h₁. and-agree (hard-gap-same front t b B a (omega arith)) (λ g h₂. hard-string-agree g h₂))
-      (λ a p q. and-reach N (a + 1) a (hardGap S a) _ (hard-gap-reach S a q) (λ g u v. reach-from N (g + 1) a (hardString S g) (omega arith) (hard-string-reach S g)))
+      (λ a p q. and-reach N (a + 1) a (hardGap S a) _ (hard-gap-reach S a q) (λ g u v. reach-from N (g + 1) a (hardString S g) (omega arith) (hard-string-reach S g v)))
       (λ a. sure-and _ (hard-gap-sure S a) (hard-string-sure S))
 
   -- ---- open: its booking, with what follows

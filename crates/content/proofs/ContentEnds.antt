@@ -1,4 +1,4 @@
--- Where contents of directives end: past their start, and within the text.
+-- Where contents of directives end: past their start, and within the text, where a refusal stands too.
 use Prim.Native.Nat.{ℕ, suc, _+_, _≤_}
 use native.Mathlib.Omega.{arith}
 use mathlib.Core.List.{List}
@@ -21,14 +21,14 @@ module _ (s : List ℕ) where
   abbrev N : ℕ
   N = length s
 
-  pub hard-account-reach : (at : ℕ) → Reach N (at + 1) (hardAccount s at)
+  pub hard-account-reach : (at : ℕ) → at ≤ N → Reach N (at + 1) (hardAccount s at)
   unfolding hardAccount
-  hard-account-reach at =
-      and-reach N (at + 1) (at + 1) (must at (account s at)) _ (must-reach N (at + 1) at _ (account-reach s at)) (λ e p q. to-reach N (at + 1) e _ p q)
+  hard-account-reach at h =
+      and-reach N (at + 1) (at + 1) (must at (account s at)) _ (must-reach N (at + 1) at _ h (account-reach s at)) (λ e p q. to-reach N (at + 1) e _ p q)
 
-  pub hard-string-reach : (at : ℕ) → Reach N (at + 1) (hardString s at)
+  pub hard-string-reach : (at : ℕ) → at ≤ N → Reach N (at + 1) (hardString s at)
   unfolding hardString
-  hard-string-reach at = must-reach N (at + 1) at _ (quoted-reach s _ at)
+  hard-string-reach at h = must-reach N (at + 1) at _ h (quoted-reach s _ at)
 
   pub tolerance-reach : (at : ℕ) → at ≤ N → Reach N (at + 1) (tolerance s at)
   unfolding tolerance
@@ -39,15 +39,15 @@ module _ (s : List ℕ) where
       let w = run-reach isBlank s i q₁ in
       then-reach N (b + 1) (at + 1) (expression s b) _ (expression-reach s b) (λ e v p₂ q₂. to-reach N (at + 1) e _ (omega arith) q₂))
 
-  pub balance-of-reach : (at : ℕ) → Reach N (at + 1) (balanceOf s at)
+  pub balance-of-reach : (at : ℕ) → at ≤ N → Reach N (at + 1) (balanceOf s at)
   unfolding balanceOf
-  balance-of-reach at =
-      and-reach N (at + 1) (at + 1) (hardAccount s at) _ (hard-account-reach at) (λ a p₁ q₁.
+  balance-of-reach at h =
+      and-reach N (at + 1) (at + 1) (hardAccount s at) _ (hard-account-reach at h) (λ a p₁ q₁.
       and-reach N (a + 1) (at + 1) (hardGap s a) _ (hard-gap-reach s a q₁) (λ g p₂ q₂.
-      then-reach N (g + 1) (at + 1) (must g (expression s g)) _ (must-reach N (g + 1) g _ (expression-reach s g)) (λ e v p₃ q₃.
+      then-reach N (g + 1) (at + 1) (must g (expression s g)) _ (must-reach N (g + 1) g _ q₂ (expression-reach s g)) (λ e v p₃ q₃.
       then-reach N e (at + 1) (maybe e (tolerance s e)) _ (optional-reach N e _ q₃ (tolerance-reach e q₃)) (λ t ts p₄ q₄.
       and-reach N (t + 1) (at + 1) (hardGap s t) _ (hard-gap-reach s t q₄) (λ c p₅ q₅.
-      and-reach N (c + 1) (at + 1) (must c (currency s c)) _ (must-reach N (c + 1) c _ (currency-reach s c)) (λ d p₆ q₆.
+      and-reach N (c + 1) (at + 1) (must c (currency s c)) _ (must-reach N (c + 1) c _ q₅ (currency-reach s c)) (λ d p₆ q₆.
       to-reach N (at + 1) d _ (omega arith) q₆))))))
 
   pub one-currency-reach : (at : ℕ) → Reach N (at + 1) (oneCurrency s at)
@@ -70,23 +70,23 @@ module _ (s : List ℕ) where
   unfolding booking
   booking-reach at h = spaced-reach s _ (quoted-reach s _) at h
 
-  pub open-of-reach : (at : ℕ) → Reach N (at + 1) (openOf s at)
+  pub open-of-reach : (at : ℕ) → at ≤ N → Reach N (at + 1) (openOf s at)
   unfolding openOf
-  open-of-reach at =
-      and-reach N (at + 1) (at + 1) (hardAccount s at) _ (hard-account-reach at) (λ a p₁ q₁.
+  open-of-reach at h =
+      and-reach N (at + 1) (at + 1) (hardAccount s at) _ (hard-account-reach at h) (λ a p₁ q₁.
       and-reach N a (at + 1) (maybe a _) _ (optional-reach N a _ q₁ (spaced-reach s (currencies s) currencies-reach a q₁)) (λ c p₂ q₂.
       reach-from N c (at + 1) (maybe c (booking s c)) (omega arith) (optional-reach N c _ q₂ (booking-reach c q₂))))
 
-  pub pad-of-reach : (at : ℕ) → Reach N (at + 1) (padOf s at)
+  pub pad-of-reach : (at : ℕ) → at ≤ N → Reach N (at + 1) (padOf s at)
   unfolding padOf
-  pad-of-reach at =
-      and-reach N (at + 1) (at + 1) (hardAccount s at) _ (hard-account-reach at) (λ a p₁ q₁.
+  pad-of-reach at h =
+      and-reach N (at + 1) (at + 1) (hardAccount s at) _ (hard-account-reach at h) (λ a p₁ q₁.
       and-reach N (a + 1) (at + 1) (hardGap s a) _ (hard-gap-reach s a q₁) (λ g p₂ q₂.
-      reach-from N (g + 1) (at + 1) (hardAccount s g) (omega arith) (hard-account-reach g)))
+      reach-from N (g + 1) (at + 1) (hardAccount s g) (omega arith) (hard-account-reach g q₂)))
 
-  pub event-of-reach : (at : ℕ) → Reach N (at + 1) (eventOf s at)
+  pub event-of-reach : (at : ℕ) → at ≤ N → Reach N (at + 1) (eventOf s at)
   unfolding eventOf
-  event-of-reach at =
-      and-reach N (at + 1) (at + 1) (hardString s at) _ (hard-string-reach at) (λ a p₁ q₁.
+  event-of-reach at h =
+      and-reach N (at + 1) (at + 1) (hardString s at) _ (hard-string-reach at h) (λ a p₁ q₁.
       and-reach N (a + 1) (at + 1) (hardGap s a) _ (hard-gap-reach s a q₁) (λ g p₂ q₂.
-      reach-from N (g + 1) (at + 1) (hardString s g) (omega arith) (hard-string-reach g)))
+      reach-from N (g + 1) (at + 1) (hardString s g) (omega arith) (hard-string-reach g q₂)))

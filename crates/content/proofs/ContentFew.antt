@@ -33,10 +33,10 @@ module _ (s : List ℕ) where
   pub hard-gap-and : (k at : ℕ) (f : ℕ → Rows) → at ≤ N → ((g : ℕ) → at + 1 ≤ g → g ≤ N → Fits s k (f g)) → Fits s k (hardGap s at and f)
   hard-gap-and k at f h u = bare-and N (at + 1) k (hardGap s at) f (hard-gap-reach s at h) (hard-gap-bare s at) u
 
-  pub hard-account-fits : (at : ℕ) → Fits s at (hardAccount s at)
+  pub hard-account-fits : (at : ℕ) → at ≤ N → Fits s at (hardAccount s at)
   unfolding hardAccount
-  hard-account-fits at =
-      bare-and N (at + 1) at (must at (account s at)) _ (must-reach N (at + 1) at _ (account-reach s at)) (must-bare at _ (account-bare s at)) (λ e p q.
+  hard-account-fits at h =
+      bare-and N (at + 1) at (must at (account s at)) _ (must-reach N (at + 1) at _ h (account-reach s at)) (must-bare at _ (account-bare s at)) (λ e p q.
       row-fits at e _ span-filled (omega arith))
 
   -- a string whose row is a span
@@ -57,15 +57,15 @@ module _ (s : List ℕ) where
       then-read N (b + 1) at (expression s b) _ (expression-reach s b) (λ e v x p₂ q₂.
       row-fits at e _ (valued-filled (λ z. omega arith) (omega arith) (omega arith) (read-small s b e v x)) (omega arith)))
 
-  pub balance-of-fits : (at : ℕ) → Fits s at (balanceOf s at)
+  pub balance-of-fits : (at : ℕ) → at ≤ N → Fits s at (balanceOf s at)
   unfolding balanceOf
-  balance-of-fits at =
-      and-fits N (at + 1) at (hardAccount s at) _ (hard-account-reach s at) (hard-account-fits at) (λ a p₁ q₁.
+  balance-of-fits at h =
+      and-fits N (at + 1) at (hardAccount s at) _ (hard-account-reach s at h) (hard-account-fits at h) (λ a p₁ q₁.
       hard-gap-and a a _ q₁ (λ g p₂ q₂.
-      then-read N (g + 1) a (must g (expression s g)) _ (must-reach N (g + 1) g _ (expression-reach s g)) (λ e v x p₃ q₃.
+      then-read N (g + 1) a (must g (expression s g)) _ (must-reach N (g + 1) g _ q₂ (expression-reach s g)) (λ e v x p₃ q₃.
       then-rows _ N e e a (maybe e (tolerance s e)) _ (optional-reach N e _ q₃ (tolerance-reach s e q₃)) (maybe-fits e _ (tolerance-fits e q₃)) (λ t ts p₄ q₄ r₄.
       hard-gap-and a t _ q₄ (λ c p₅ q₅.
-      bare-and N (c + 1) a (must c (currency s c)) _ (must-reach N (c + 1) c _ (currency-reach s c)) (must-bare c _ (currency-bare s c)) (λ d p₆ q₆.
+      bare-and N (c + 1) a (must c (currency s c)) _ (must-reach N (c + 1) c _ q₅ (currency-reach s c)) (must-bare c _ (currency-bare s c)) (λ d p₆ q₆.
       to-fits a d _ (
         (
           omega arith,
@@ -94,21 +94,21 @@ module _ (s : List ℕ) where
   unfolding booking
   booking-fits at h = spaced-fits s _ (λ i. text-fits 32 i (omega arith)) at h
 
-  pub open-of-fits : (at : ℕ) → Fits s at (openOf s at)
+  pub open-of-fits : (at : ℕ) → at ≤ N → Fits s at (openOf s at)
   unfolding openOf
-  open-of-fits at =
-      and-fits N (at + 1) at (hardAccount s at) _ (hard-account-reach s at) (hard-account-fits at) (λ a p₁ q₁.
+  open-of-fits at h =
+      and-fits N (at + 1) at (hardAccount s at) _ (hard-account-reach s at h) (hard-account-fits at h) (λ a p₁ q₁.
       and-fits N a a (maybe a _) _ (optional-reach N a _ q₁ (spaced-reach s (currencies s) (currencies-reach s) a q₁))
       (maybe-fits a _ (spaced-fits s (currencies s) currencies-fits a q₁)) (λ c p₂ q₂. maybe-fits c _ (booking-fits c q₂)))
 
-  pub pad-of-fits : (at : ℕ) → Fits s at (padOf s at)
+  pub pad-of-fits : (at : ℕ) → at ≤ N → Fits s at (padOf s at)
   unfolding padOf
-  pad-of-fits at =
-      and-fits N (at + 1) at (hardAccount s at) _ (hard-account-reach s at) (hard-account-fits at) (λ a p₁ q₁.
-      hard-gap-and a a _ q₁ (λ g p₂ q₂. fits-from g a _ (omega arith) (hard-account-fits g)))
+  pad-of-fits at h =
+      and-fits N (at + 1) at (hardAccount s at) _ (hard-account-reach s at h) (hard-account-fits at h) (λ a p₁ q₁.
+      hard-gap-and a a _ q₁ (λ g p₂ q₂. fits-from g a _ (omega arith) (hard-account-fits g q₂)))
 
-  pub event-of-fits : (at : ℕ) → Fits s at (eventOf s at)
+  pub event-of-fits : (at : ℕ) → at ≤ N → Fits s at (eventOf s at)
   unfolding eventOf
-  event-of-fits at =
-      and-fits N (at + 1) at (hardString s at) _ (hard-string-reach s at) (hard-string-fits at) (λ a p₁ q₁.
+  event-of-fits at h =
+      and-fits N (at + 1) at (hardString s at) _ (hard-string-reach s at h) (hard-string-fits at) (λ a p₁ q₁.
       hard-gap-and a a _ q₁ (λ g p₂ q₂. fits-from g a _ (omega arith) (hard-string-fits g)))

@@ -245,9 +245,9 @@ module _ (base : ℕ) (s : List ℕ) (at : ℕ) (o : Out) (t v : List ℕ) (r : 
 
   -- there is room for what follows
   module _ (e : ℕ) (m : Out) where
-    module _ (D : Did base (hardAccount s at) o t v r) (q : r ≡ Ran.To e m) (l : o .rows ≤ at) where
+    module _ (D : Did base (hardAccount s at) o t v r) (q : r ≡ Ran.To e m) (l : o .rows ≤ at) (i : at ≤ length s) where
       open-ends : (e ≤ length s) × (m .rows ≤ e)
-      open-ends = no-more base o t v r (hardAccount s at) D e m q (length s) (at + 1) at (hard-account-reach s at) (hard-account-fits s at) l
+      open-ends = no-more base o t v r (hardAccount s at) D e m q (length s) (at + 1) at (hard-account-reach s at i) (hard-account-fits s at i) l
 
       pub open-within : e ≤ length s
       open-within = open-ends .0

@@ -13,13 +13,15 @@ use lib.Seq.{length-take-le, drop-drop, getD-take, take-at}
 use Rattle.text.proofs.TestLaws.{and-left, and-right}
 use Rattle.text.proofs.Steps.{head-drop}
 use Rattle.text.specs.Permitted.{sizeLimit}
+use Rattle.text.proofs.EveryLaws.{every-append, every-map}
+use Rattle.text.specs.Every.{Every}
 use Rattle.amount.proofs.RowCounts.{refusalKind, midLine}
 use Rattle.row.specs.declared.table.Row.{Row}
 use Rattle.row.specs.Row.{width, rowsBytes, feeds}
 use Rattle.row.specs.Strings.{isStart, cuts}
 use Rattle.row.proofs.PourLaws.{le-or-lt}
 use Rattle.row.proofs.LineLaws.{feeds-le}
-use Rattle.entry.proofs.EntryLines.{Each, OnLine}
+use Rattle.entry.proofs.EntryLines.{OnLine}
 use Rattle.entry.proofs.EntryCut.{Ends}
 use Rattle.ledger.specs.Plain.{accepted}
 use Rattle.ledger.specs.declared.scan.Profile.the-variants.{Plain}
@@ -36,7 +38,7 @@ use Rattle.edit.proofs.BlockTests.{or-cases, block-starts, block-ends, 
 use Rattle.edit.proofs.MoveLaws.{moveAll, recover-all, Joined, joined-rows}
 use Rattle.row.proofs.ReadBack.{wrapped}
 use Rattle.edit.proofs.RowBytes.{rows-in, all-wrapped, all-shifted}
-use Rattle.edit.proofs.SuchLaws.{each-append, each-map, such-append, such-all, such-none, such-wrapped}
+use Rattle.edit.proofs.SuchLaws.{such-append, such-all, such-none, such-wrapped}
 
 -- ---- a row of a text that ends in a line feed starts before its end
 
@@ -197,45 +199,45 @@ module _ (s : List ℕ) (a e : ℕ) (y : List ℕ) (g : Edit s a e y) where
   abbrev Lies : ℕ → ℕ → List ℕ → Row → Type 0
   Lies b k z r = OnLine (suc refusalKind) b (k + 1) z r
 
-  P-lies : Each (λ r. r .start < a) P
+  P-lies : Every (λ r. r .start < a) P
   P-lies =
-      each-map (λ (r : Row) (h : Lies 0 0 p r). omega (arith, h .place, before-end p p-ends (h .into) (h .inside) (h .early), len-p)) P
+      every-map (λ (r : Row) (h : Lies 0 0 p r). omega (arith, h .place, before-end p p-ends (h .into) (h .inside) (h .early), len-p)) P
       (recover-kept Plain (length p) 0 0 p .lines)
 
-  X-lies : Each (Lies (length p) l x) X
+  X-lies : Every (Lies (length p) l x) X
   X-lies = recover-kept Plain (length x) (length p) l x .lines
 
-  T-lies : Each (λ r. e ≤ r .start) T
+  T-lies : Every (λ r. e ≤ r .start) T
   T-lies =
-      each-map (λ (r : Row) (h : Lies (length p + length x) (l + feeds x) t r). omega (arith, h .place, len-p, len-x, bounds .1 .0)) T
-      (subst (Each (Lies (length p + length x) (l + feeds x) t)) T-is (recover-kept Plain (length t) (length p + length x) (l + feeds x) t .lines))
+      every-map (λ (r : Row) (h : Lies (length p + length x) (l + feeds x) t r). omega (arith, h .place, len-p, len-x, bounds .1 .0)) T
+      (subst (Every (Lies (length p + length x) (l + feeds x) t)) T-is (recover-kept Plain (length t) (length p + length x) (l + feeds x) t .lines))
 
-  all-low : Each (λ r. r .start < fieldLimit) (P ++ (X ++ T))
+  all-low : Every (λ r. r .start < fieldLimit) (P ++ (X ++ T))
   all-low =
-      each-map (λ (r : Row) (h : Lies 0 0 s r). omega (arith, h .place, h .inside, g .size)) (P ++ (X ++ T))
-      (subst (Each (Lies 0 0 s)) old-rows (recover-kept Plain (length s) 0 0 s .lines))
+      every-map (λ (r : Row) (h : Lies 0 0 s r). omega (arith, h .place, h .inside, g .size)) (P ++ (X ++ T))
+      (subst (Every (Lies 0 0 s)) old-rows (recover-kept Plain (length s) 0 0 s .lines))
 
   before-is : before a (P ++ (X ++ T)) ≡ P
   before-is =
       such-append (λ r. ltb (r .start) a) P (X ++ T)
       ∙ ap (λ (z : List Row). before a P ++ z) (such-none (λ r. ltb (r .start) a) (X ++ T) none)
       ∙ append-nil (before a P)
-      ∙ such-all (λ r. ltb (r .start) a) P (each-map (λ (r : Row) (h : r .start < a). lt-ltb (r .start) a h) P P-lies)
+      ∙ such-all (λ r. ltb (r .start) a) P (every-map (λ (r : Row) (h : r .start < a). lt-ltb (r .start) a h) P P-lies)
     where
-      none : Each (λ r. ltb (r .start) a ≡ false) (X ++ T)
+      none : Every (λ r. ltb (r .start) a ≡ false) (X ++ T)
       none =
-          each-append (λ r. ltb (r .start) a ≡ false) X T
-          (each-map (λ (r : Row) (h : Lies (length p) l x r). le-ltb (r .start) a (omega (arith, h .place, len-p))) X X-lies)
-          (each-map (λ (r : Row) (h : e ≤ r .start). le-ltb (r .start) a (omega (arith, bounds .1 .0))) T T-lies)
+          every-append (λ r. ltb (r .start) a ≡ false) X T
+          (every-map (λ (r : Row) (h : Lies (length p) l x r). le-ltb (r .start) a (omega (arith, h .place, len-p))) X X-lies)
+          (every-map (λ (r : Row) (h : e ≤ r .start). le-ltb (r .start) a (omega (arith, bounds .1 .0))) T T-lies)
 
   from-is : 0 < length t → from e (P ++ (X ++ T)) ≡ T
   from-is w =
       such-append (λ r. leb e (r .start)) P (X ++ T)
       ∙ ap (λ (z : List Row). z ++ from e (X ++ T))
-      (such-none (λ r. leb e (r .start)) P (each-map (λ (r : Row) (h : r .start < a). lt-leb e (r .start) (omega (arith, bounds .1 .0))) P P-lies))
+      (such-none (λ r. leb e (r .start)) P (every-map (λ (r : Row) (h : r .start < a). lt-leb e (r .start) (omega (arith, bounds .1 .0))) P P-lies))
       ∙ such-append (λ r. leb e (r .start)) X T
-      ∙ ap (λ (z : List Row). z ++ from e T) (such-none (λ r. leb e (r .start)) X (each-map early X X-lies))
-      ∙ such-all (λ r. leb e (r .start)) T (each-map (λ (r : Row) (h : e ≤ r .start). le-leb e (r .start) h) T T-lies)
+      ∙ ap (λ (z : List Row). z ++ from e T) (such-none (λ r. leb e (r .start)) X (every-map early X X-lies))
+      ∙ such-all (λ r. leb e (r .start)) T (every-map (λ (r : Row) (h : e ≤ r .start). le-leb e (r .start) h) T T-lies)
     where
       early : (r : Row) → Lies (length p) l x r → leb e (r .start) ≡ false
       early r h =

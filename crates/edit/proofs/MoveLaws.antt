@@ -9,12 +9,13 @@ use mathlib.Core.List.{List, [], _∷_, _++_, map, map-append, append-nil}
 use borrow.Author.Tests.{ne-eqb}
 use lib.Dec.{eqb}
 use lib.ListN.{length, getD, take, drop}
+use Rattle.text.specs.Every.{Every}
 use Rattle.row.specs.declared.table.Row.{Row}
 use Rattle.row.specs.Row.{rowOf, feeds}
 use Rattle.row.specs.Details.{spanned}
 use Rattle.row.specs.Strings.{isStart}
 use Rattle.amount.proofs.RowCounts.{refusalKind}
-use Rattle.entry.proofs.EntryLines.{Each, OnLine}
+use Rattle.entry.proofs.EntryLines.{OnLine}
 use Rattle.entry.proofs.EntryCut.{Ends}
 use Rattle.ledger.specs.Plain.{move, moved, Reading, accepted, denied, part}
 use Rattle.ledger.proofs.PlainLaws.{part-kept}
@@ -55,7 +56,7 @@ move-all a l b m r h =
       add-assoc l m (r .line),
     )
 
-moved-all : (a l b m : ℕ) (s : List ℕ) (rs : List Row) → Each (OnLine refusalKind 0 1 s) rs → moved (a + b) (l + m) rs ≡ map (moveAll a l) (moved b m rs)
+moved-all : (a l b m : ℕ) (s : List ℕ) (rs : List Row) → Every (OnLine refusalKind 0 1 s) rs → moved (a + b) (l + m) rs ≡ map (moveAll a l) (moved b m rs)
 moved-all a l b m s [] e = refl
 moved-all a l b m s (r ∷ rs) (e, es) = rw (move-all a l b m r (e .kind), moved-all a l b m s rs es)
 

@@ -8,6 +8,7 @@ use mathlib.Core.List.{List, [], _∷_, _++_, map, append-nil}
 use lib.Dec.{eqb}
 use lib.ListN.{length, getD, take, drop, length-take, length-drop}
 use lib.Seq.{drop-drop, getD-drop, take-add}
+use Rattle.text.specs.Every.{Every}
 use Rattle.amount.proofs.RowCounts.{refusalKind}
 use Rattle.row.specs.declared.table.Row.{Row}
 use Rattle.row.specs.Field.{le, un}
@@ -15,7 +16,7 @@ use Rattle.row.specs.Row.{width, rowBytes, rowsBytes, rowIn, rowsIn}
 use Rattle.row.specs.Details.{spanned}
 use Rattle.row.proofs.FieldLaws.{length-le, un-le, le-un}
 use Rattle.row.proofs.ReadBack.{wrapped, rows-front}
-use Rattle.entry.proofs.EntryLines.{Each, OnLine}
+use Rattle.entry.proofs.EntryLines.{OnLine}
 use Rattle.edit.specs.Edits.{fieldLimit, moveOn, shift}
 use Rattle.edit.specs.Afresh.{KeepsBytes}
 use Rattle.edit.proofs.MoveLaws.{moveAll}
@@ -87,7 +88,7 @@ module _ (a b d l m j : ℕ) (hd : (a + d) % fieldLimit ≡ b % fieldLimit) (hj 
       some true z = shift-field a b d z hd
       some false z = le-same 4 z
 
-  pub all-shifted : (c k : ℕ) (t : List ℕ) (rs : List Row) → Each (OnLine (suc refusalKind) c k t) rs
+  pub all-shifted : (c k : ℕ) (t : List ℕ) (rs : List Row) → Every (OnLine (suc refusalKind) c k t) rs
       → rowsBytes (map (shift d j) (map wrapped (map (moveAll a l) rs))) ≡ rowsBytes (map (moveAll b m) rs)
   unfolding rowsBytes
   all-shifted c k t [] e = refl

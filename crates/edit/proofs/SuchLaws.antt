@@ -3,19 +3,11 @@ use Prim.Native.Nat.{ℕ, _+_, _-_, _<_}
 use mathlib.Core.Path.{_≡_, refl, _∙_, ap}
 use mathlib.Core.Bool.{Bool, true, false, cond}
 use mathlib.Core.List.{List, [], _∷_, _++_, map}
+use Rattle.text.specs.Every.{Every}
 use Rattle.row.specs.declared.table.Row.{Row}
-use Rattle.entry.proofs.EntryLines.{Each}
 use Rattle.edit.specs.Edits.{fieldLimit, such}
 use Rattle.row.proofs.ReadBack.{wrapped}
 use Rattle.edit.proofs.RowBytes.{low-field}
-
-pub each-append : {A : Type 0} (P : A → Type 0) (xs ys : List A) → Each P xs → Each P ys → Each P (xs ++ ys)
-each-append P [] ys h k = k
-each-append P (x ∷ xs) ys (h, hs) k = (h, each-append P xs ys hs k)
-
-pub each-map : {A : Type 0} {P Q : A → Type 0} → ((x : A) → P x → Q x) → (xs : List A) → Each P xs → Each Q xs
-each-map f [] h = tt
-each-map f (x ∷ xs) (h, hs) = (f x h, each-map f xs hs)
 
 pub such-append : (t : Row → Bool) (xs ys : List Row) → such t (xs ++ ys) ≡ such t xs ++ such t ys
 unfolding such
@@ -26,12 +18,12 @@ such-append t (r ∷ xs) ys = go (t r) (such-append t xs ys)
     go true h = ap (λ (z : List Row). r ∷ z) h
     go false h = h
 
-pub such-all : (t : Row → Bool) (xs : List Row) → Each (λ r. t r ≡ true) xs → such t xs ≡ xs
+pub such-all : (t : Row → Bool) (xs : List Row) → Every (λ r. t r ≡ true) xs → such t xs ≡ xs
 unfolding such
 such-all t [] h = refl
 such-all t (r ∷ xs) (h, hs) = rw (h, such-all t xs hs)
 
-pub such-none : (t : Row → Bool) (xs : List Row) → Each (λ r. t r ≡ false) xs → such t xs ≡ []
+pub such-none : (t : Row → Bool) (xs : List Row) → Every (λ r. t r ≡ false) xs → such t xs ≡ []
 unfolding such
 such-none t [] h = refl
 such-none t (r ∷ xs) (h, hs) = rw (h, such-none t xs hs)
@@ -41,7 +33,7 @@ unfolding wrapped
 start-wrapped r h = low-field (r .start) h
 
 -- a test of the start, which stands in the bytes as it is
-pub such-wrapped : (t : ℕ → Bool) (xs : List Row) → Each (λ r. r .start < fieldLimit) xs
+pub such-wrapped : (t : ℕ → Bool) (xs : List Row) → Every (λ r. r .start < fieldLimit) xs
     → such (λ r. t (r .start)) (map wrapped xs) ≡ map wrapped (such (λ r. t (r .start)) xs)
 unfolding such
 such-wrapped t [] h = refl

@@ -25,7 +25,7 @@ use Rattle.row.proofs.SureLaws.{Sure, sure-to, sure-hard, sure-must, sure-more}
 use Rattle.posting.specs.Metadata.{quoted, metadata}
 use Rattle.posting.proofs.PostingEnds.{quoted-reach}
 use Rattle.posting.proofs.Agree.{torn, torn-right, torn-more, Agree, Agrees, misses, refuses, reads, crosses, lost-map, same-agree, then-at, and-at, and-agree, and-strict, and-loose, more-agree, else-agree}
-use Rattle.posting.proofs.PostingAgree.{line-agree, sure-metadata}
+use Rattle.posting.proofs.PostingAgree.{longer, line-agree, sure-metadata}
 use Rattle.content.specs.Contents.{hardAccount, balanceOf, openOf, padOf, eventOf}
 use Rattle.content.proofs.ContentEnds.{hard-string-reach, event-of-reach}
 use Rattle.content.proofs.ContentAgree.{ending, ending-reach, ending-agree, hard-account-same, balance-of-same, pad-of-same, hard-string-agree, option-string-agree, event-of-agree, open-ending}
@@ -116,7 +116,7 @@ module _ (front t : List ℕ) (b : ℕ) (B : starts b ≡ true) where
   event-ending : (at : ℕ) → at < M → Clear M (eventOf S at then λ m rs. unless (lineEnd S m) (To m rs))
       → Agrees M (suc M) false (eventOf S at and ending S) (eventOf X at and ending X)
   unfolding _and_ _then_ unless
-  event-ending at h c = go (eventOf S at) (eventOf X at) (event-of-agree front t b B at h) (event-of-reach S at) c
+  event-ending at h c = go (eventOf S at) (eventOf X at) (event-of-agree front t b B at h) (event-of-reach S at (omega (arith, longer front t b B))) c
     where
       go : (a d : Rows) → Agrees M M false a d → Reach N (at + 1) a → Clear M (a then λ m rs. unless (lineEnd S m) (To m rs)) → Agrees M (suc M) false (a and ending S) (d and ending X)
       go a d misses r c = misses
@@ -174,8 +174,8 @@ module _ (front t : List ℕ) (b : ℕ) (B : starts b ≡ true) where
   include-agree h =
       and-agree (word-same front t b B (bytes "include") (words-lf .8) 0 h) (λ a h₁.
       and-agree (hard-gap-same front t b B a (omega arith)) (λ c h₂.
-      and-loose N (hard-string-agree front t b B c h₂) (hard-string-reach S c) (λ j _ h₃. line-agree front t b B j (omega arith))
-      (λ j p q. must-reach N j j _ (line-reach S j q)) (λ j. sure-must j _)))
+      and-loose N (hard-string-agree front t b B c h₂) (hard-string-reach S c (omega (arith, longer front t b B))) (λ j _ h₃. line-agree front t b B j (omega arith))
+      (λ j p q. must-reach N j j _ q (line-reach S j q)) (λ j. sure-must j _)))
 
   tagged-agree : (w : String) → hasLF (bytes w) ≡ false → 0 < M → Agrees M (suc M) false (tagged w S 0) (tagged w X 0)
   unfolding tagged

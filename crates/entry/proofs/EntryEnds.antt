@@ -1,4 +1,5 @@
--- Where entries and their forms end: at or past their start, and within the text. An entry takes a byte at least.
+-- Where entries and their forms end: at or past their start, and within the text, where a refusal stands too. An entry
+-- takes a byte at least.
 use Prim.Native.Nat.{ℕ, _+_, _≤_}
 use Prim.Native.String.{String}
 use native.Mathlib.Omega.{arith}
@@ -30,7 +31,7 @@ pub as-entry-reach : (n i k d : ℕ) (a : Rows) → Reach n i a → Reach n i (a
 unfolding asEntry
 as-entry-reach n i k d (To j rs) r = record { ends = r .ends }
 as-entry-reach n i k d Miss r = miss-reach n i
-as-entry-reach n i k d (Hard m p) r = hard-reach n i m p
+as-entry-reach n i k d (Hard m p) r = hard-reach n i m p (r .ends)
 
 module _ (s : List ℕ) where
   abbrev N : ℕ
@@ -38,13 +39,13 @@ module _ (s : List ℕ) where
 
   -- ---- rules 4, 14 and 15: each has a word and a gap
 
-  pub keyword-reach : (w : String) (content : List ℕ → ℕ → Rows) → ((g : ℕ) → Reach N (g + 1) (content s g))
+  pub keyword-reach : (w : String) (content : List ℕ → ℕ → Rows) → ((g : ℕ) → g ≤ N → Reach N (g + 1) (content s g))
       → (at : ℕ) → at ≤ N → Reach N (at + 1) (keyword w content s at)
   unfolding keyword
   keyword-reach w content r at h =
       and-reach N (at + length (bytes w)) (at + 1) (word (bytes w) s at) _ (word-reach s at h (bytes w)) (λ e p₁ q₁.
       and-reach N (e + 1) (at + 1) (hardGap s e) _ (hard-gap-reach s e q₁) (λ g p₂ q₂.
-      and-reach N (g + 1) (at + 1) (content s g) _ (r g) (λ m p₃ q₃.
+      and-reach N (g + 1) (at + 1) (content s g) _ (r g q₂) (λ m p₃ q₃.
       and-reach N m (at + 1) (lineEnd s m) _ (line-reach s m q₃) (λ l p₄ q₄.
       reach-from N l (at + 1) (metadata s l) (omega arith) (metadata-reach s l q₄)))))
 
@@ -63,8 +64,8 @@ module _ (s : List ℕ) where
   include-reach at h =
       and-reach N (at + length (bytes "include")) (at + 1) (word (bytes "include") s at) _ (word-reach s at h (bytes "include")) (λ a p₁ q₁.
       and-reach N (a + 1) (at + 1) (hardGap s a) _ (hard-gap-reach s a q₁) (λ b p₂ q₂.
-      and-reach N (b + 1) (at + 1) (hardString s b) _ (hard-string-reach s b) (λ e p₃ q₃.
-      reach-from N e (at + 1) (must e (lineEnd s e)) (omega arith) (must-reach N e e _ (line-reach s e q₃)))))
+      and-reach N (b + 1) (at + 1) (hardString s b) _ (hard-string-reach s b q₂) (λ e p₃ q₃.
+      reach-from N e (at + 1) (must e (lineEnd s e)) (omega arith) (must-reach N e e _ q₃ (line-reach s e q₃)))))
 
   pub tagged-reach : (w : String) (at : ℕ) → at ≤ N → Reach N (at + 1) (tagged w s at)
   unfolding tagged
@@ -87,7 +88,7 @@ module _ (s : List ℕ) where
       (else-reach N at _ _ (worded 12 "commodity" hardCurrency (hard-currency-reach s))
       (worded 13 "event" eventOf (event-of-reach s))))))))
     where
-      worded : (k : ℕ) (w : String) (content : List ℕ → ℕ → Rows) → ((g : ℕ) → Reach N (g + 1) (content s g)) → Reach N at (asEntry k d (keyword w content s at))
+      worded : (k : ℕ) (w : String) (content : List ℕ → ℕ → Rows) → ((g : ℕ) → g ≤ N → Reach N (g + 1) (content s g)) → Reach N at (asEntry k d (keyword w content s at))
       worded k w content r = as-entry-reach N at k d _ (reach-from N (at + 1) at _ (omega arith) (keyword-reach w content r at h))
 
   pub directive-reach : Reach N 1 (directive s)

@@ -30,14 +30,14 @@ module _ (s : List ℕ) where
 
   -- ---- rules 4, 14 and 15
 
-  pub keyword-fits : (w : String) (content : List ℕ → ℕ → Rows) → ((g : ℕ) → Reach N (g + 1) (content s g)) → ((g : ℕ) → Fits s g (content s g))
+  pub keyword-fits : (w : String) (content : List ℕ → ℕ → Rows) → ((g : ℕ) → g ≤ N → Reach N (g + 1) (content s g)) → ((g : ℕ) → g ≤ N → Fits s g (content s g))
       → (at : ℕ) → at ≤ N → Fits s at (keyword w content s at)
   unfolding keyword
   keyword-fits w content r u at h =
       word-and w at at _ h (λ e p₁ q₁.
       hard-gap-and s at e _ q₁ (λ g p₂ q₂.
       fits-from g at _ (omega arith)
-      (and-fits N (g + 1) g (content s g) _ (r g) (u g) (λ m p₃ q₃.
+      (and-fits N (g + 1) g (content s g) _ (r g q₂) (u g q₂) (λ m p₃ q₃.
       and-fits N m m (lineEnd s m) _ (line-reach s m q₃) (line-fits s m q₃) (λ l p₄ q₄. fits-wide _ l _ (omega arith) (metadata-fits s l q₄))))))
 
   -- the rows of these come after the entry's first byte, which is left for the entry's own row
@@ -58,7 +58,7 @@ module _ (s : List ℕ) where
       word-and "include" (at + 1) at _ h (λ a p₁ q₁.
       hard-gap-and s (at + 1) a _ q₁ (λ b p₂ q₂.
       fits-from b (at + 1) _ (omega arith)
-      (and-fits N (b + 1) b (hardString s b) _ (hard-string-reach s b) (hard-string-fits s b) (λ e p₃ q₃. must-fits e e _ (line-fits s e q₃)))))
+      (and-fits N (b + 1) b (hardString s b) _ (hard-string-reach s b q₂) (hard-string-fits s b) (λ e p₃ q₃. must-fits e e _ (line-fits s e q₃)))))
 
   pub tagged-fits : (w : String) (at : ℕ) → at ≤ N → Fits s (at + 1) (tagged w s at)
   unfolding tagged

@@ -7,6 +7,7 @@ use mathlib.Core.Path.{_≡_, refl}
 use mathlib.Core.List.{List, [], _∷_, map}
 use lib.ListN.{length, take}
 use lib.Seq.{length-take-le, getD-take}
+use Rattle.text.specs.Every.{Every}
 use Rattle.amount.specs.declared.detail.Detail.{Detail}
 use Rattle.amount.proofs.RowCounts.{refusalKind, anyKinds, midLine, Rising}
 use Rattle.row.specs.declared.table.Row.{Row}
@@ -14,10 +15,6 @@ use Rattle.row.specs.Row.{rowOf, feeds}
 use Rattle.entry.specs.Entry.{detailRow, rowsOf, got, entryOf}
 use Rattle.entry.proofs.EntryForms.{entry-form, entry-sound}
 use Rattle.entry.proofs.EntryTold.{form-placed, form-kind-low}
-
-abbrev pub Each : {A : Type 0} → (A → Type 0) → List A → Type 0
-Each P [] = Unit {0}
-Each P (x ∷ xs) = P x × Each P xs
 
 -- a row of a kind below `top` in a text that starts at place a and line l
 pub record OnLine (top a l : ℕ) (s : List ℕ) (r : Row) : Type 0 where
@@ -29,7 +26,7 @@ pub record OnLine (top a l : ℕ) (s : List ℕ) (r : Row) : Type 0 where
   pub ends : r .end ≤ a + length s
   pub kind : r .kind < top
 
-rising-le : (s : List ℕ) (k j : ℕ) (ds : List Detail) → Rising anyKinds s k j ds → k ≤ j
+pub rising-le : (s : List ℕ) (k j : ℕ) (ds : List Detail) → Rising anyKinds s k j ds → k ≤ j
 rising-le s k j [] r = r
 rising-le s k j (d ∷ ds) r = omega (arith, r .0, rising-le s (d .start) j ds (r .2))
 
@@ -39,7 +36,7 @@ unfolding midLine
 mid-taken n zero s h = refl
 mid-taken n (suc i) s h = let z : suc i - 1 ≡ i = omega arith in rw (z, getD-take n s i 0 (omega arith))
 
-details-lines : (s : List ℕ) (n k : ℕ) (ds : List Detail) → n ≤ length s → Rising anyKinds s k n ds → Each (OnLine refusalKind 0 0 (take n s)) (map (detailRow (take n s)) ds)
+details-lines : (s : List ℕ) (n k : ℕ) (ds : List Detail) → n ≤ length s → Rising anyKinds s k n ds → Every (OnLine refusalKind 0 0 (take n s)) (map (detailRow (take n s)) ds)
 unfolding detailRow rowOf
 details-lines s n k [] h r = tt
 details-lines s n k (d ∷ ds) h r =
@@ -57,7 +54,7 @@ details-lines s n k (d ∷ ds) h r =
       details-lines s n (d .start) ds h (r .2),
     )
 
-pub entry-lines : (s : List ℕ) (n : ℕ) (rs : List Row) → entryOf s ≡ got n rs → Each (OnLine refusalKind 0 0 (take n s)) rs
+pub entry-lines : (s : List ℕ) (n : ℕ) (rs : List Row) → entryOf s ≡ got n rs → Every (OnLine refusalKind 0 0 (take n s)) rs
 unfolding rowsOf rowOf feeds
 entry-lines s n rs e =
     let f = entry-form s n rs e in

@@ -127,7 +127,7 @@ module _ (s : List ℕ) where
       (else-tells _ _ (key 12 "commodity" hardCurrency (omega arith) (omega arith) (hard-currency-reach s) (hard-currency-fits s))
       (key 13 "event" eventOf (omega arith) (omega arith) (event-of-reach s) (event-of-fits s))))))))
     where
-      key : (k : ℕ) (w : String) (content : List ℕ → ℕ → Rows) → 7 ≤ k → k ≤ 13 → ((g : ℕ) → Reach (length s) (g + 1) (content s g)) → ((g : ℕ) → Fits s g (content s g))
+      key : (k : ℕ) (w : String) (content : List ℕ → ℕ → Rows) → 7 ≤ k → k ≤ 13 → ((g : ℕ) → g ≤ length s → Reach (length s) (g + 1) (content s g)) → ((g : ℕ) → g ≤ length s → Fits s g (content s g))
           → Tells s (asEntry k d (keyword w content s g))
       key k w content a b r u = keyword-tells k d _ (date-there s 0 10 d v .0 .low) a b (fits-from g 1 _ i (keyword-fits s w content r u g h))
 

@@ -124,15 +124,15 @@ by-kind P k s at price balance opens close pad commodity event =
     either true a b x y = x
     either false a b x y = y
 
-content-reach : (k : ℕ) (s : List ℕ) (at : ℕ) → Reach (length s) (at + 1) (contentOf k s at)
-content-reach k s at =
-    by-kind (Reach (length s) (at + 1)) k s at (price-of-reach s at) (balance-of-reach s at) (open-of-reach s at) (hard-account-reach s at) (pad-of-reach s at)
-    (hard-currency-reach s at) (event-of-reach s at)
+content-reach : (k : ℕ) (s : List ℕ) (at : ℕ) → at ≤ length s → Reach (length s) (at + 1) (contentOf k s at)
+content-reach k s at h =
+    by-kind (Reach (length s) (at + 1)) k s at (price-of-reach s at h) (balance-of-reach s at h) (open-of-reach s at h) (hard-account-reach s at h)
+    (pad-of-reach s at h) (hard-currency-reach s at h) (event-of-reach s at h)
 
-content-fits : (k : ℕ) (s : List ℕ) (at : ℕ) → Fits s at (contentOf k s at)
-content-fits k s at =
-    by-kind (Fits s at) k s at (price-of-fits s at) (balance-of-fits s at) (open-of-fits s at) (hard-account-fits s at) (pad-of-fits s at) (hard-currency-fits s at)
-    (event-of-fits s at)
+content-fits : (k : ℕ) (s : List ℕ) (at : ℕ) → at ≤ length s → Fits s at (contentOf k s at)
+content-fits k s at h =
+    by-kind (Fits s at) k s at (price-of-fits s at h) (balance-of-fits s at h) (open-of-fits s at h) (hard-account-fits s at h) (pad-of-fits s at h)
+    (hard-currency-fits s at h) (event-of-fits s at h)
 
 -- the content, its line end and metadata: c is what the code answered to the content, l to the line end
 module _ (base : ℕ) (k : ℕ) (s : List ℕ) (at : ℕ) (o : Out) (t v : List ℕ) (c : Ran) (w : Did base (contentOf k s at) o t v c) where
@@ -160,19 +160,19 @@ module _ (base : ℕ) (k : ℕ) (s : List ℕ) (at : ℕ) (o : Out) (t v : List 
 -- what metadata needs
 module _ (s : List ℕ) (e f : ℕ) (l : Read) (g : l ≡ Read.To f) (x : l ≡ lineEndAt s e) (c : Ran) (m : Out) (h : c ≡ Ran.To e m)
     (base k at : ℕ) (o : Out) (n n' : List ℕ) (w : Did base (contentOf k s at) o n n' c) where
-  content-ends : (ds : List Detail) × (m ≡ outs o ds) × (at + length ds ≤ e) × (e ≤ f) × (f ≤ length s)
+  content-ends : at ≤ length s → (ds : List Detail) × (m ≡ outs o ds) × (at + length ds ≤ e) × (e ≤ f) × (f ≤ length s)
   unfolding lineEnd token
-  content-ends =
+  content-ends i =
       let a = was-read base o n n' c (contentOf k s at) e m w h in
-      let p = subst (Reach (length s) (at + 1)) (a .1) (content-reach k s at) .ends in
+      let p = subst (Reach (length s) (at + 1)) (a .1) (content-reach k s at i) .ends in
       let q = subst (λ y. Reach {A = List Detail} (length s) e (token y)) (sym x ∙ g) (line-reach s e (p .1)) .ends in
-      (a .0, a .2 .0, fits-at at e (a .0) (contentOf k s at) (content-fits k s at) (a .1) .1, q .0, q .1)
+      (a .0, a .2 .0, fits-at at e (a .0) (contentOf k s at) (content-fits k s at i) (a .1) .1, q .0, q .1)
 
-  pub content-within : f ≤ length s
-  content-within = content-ends .4
+  pub content-within : at ≤ length s → f ≤ length s
+  content-within i = content-ends i .4
 
-  pub content-room : o .rows ≤ at → m .rows ≤ f
-  content-room r = rw (content-ends .1, rows-outs (content-ends .0) o) (omega (arith, content-ends .2, content-ends .3))
+  pub content-room : at ≤ length s → o .rows ≤ at → m .rows ≤ f
+  content-room i r = rw (content-ends i .1, rows-outs (content-ends i .0) o) (omega (arith, content-ends i .2, content-ends i .3))
 
 pub ruleset content-laws = (content-within, content-room, content-end, content-open, content-miss, content-hard)
 

@@ -6,6 +6,7 @@ pub mod EntryForms
 pub mod EntryFew
 pub mod EntryTold
 pub mod EntryLines
+pub mod EntryPlaces
 pub mod TokenJoins
 pub mod KeywordLaws
 pub mod FormLaws

@@ -19,6 +19,8 @@ use Rattle.text.specs.Leaves.{byte, currency, account}
 use Rattle.text.proofs.Ats.{At, at-next, at-one, at-byte, at-more}
 use Rattle.text.proofs.Inversions.{and-inv, must-inv, then-inv, maybe-inv, to-inv, not-miss}
 use Rattle.text.proofs.TestLaws.{differ}
+use Rattle.text.specs.Every.{Every}
+use Rattle.text.proofs.EveryLaws.{every-right}
 use Rattle.amount.specs.Details.{valued}
 use Rattle.amount.specs.Literal.{between}
 use Rattle.amount.specs.Expression.{expression}
@@ -27,7 +29,6 @@ use Rattle.amount.specs.declared.detail.Detail.{Detail}
 use Rattle.amount.proofs.ExpressionEnds.{expression-reach}
 use Rattle.row.specs.Details.{spanned, millionths}
 use Rattle.content.specs.Contents.{hardAccount, balanceOf, tolerance}
-use Rattle.ledger.proofs.Places.{Every}
 use Rattle.layout.specs.Meaning.{Item, texted, naming}
 use Rattle.layout.specs.Written.{valueText, sumText, amountText, detailText, kindOf, printed}
 use Rattle.layout.proofs.Texts.{at-between}
@@ -38,7 +39,7 @@ use Rattle.layout.proofs.Readings.{itemD, items, items-append, Fine, te
 use Rattle.layout.proofs.Readings.{there-map}
 use Rattle.layout.proofs.Marks.{After, after-space, after-line, calm-currency, calm-tilde, currency-blank, account-blank, reached, byte-reads}
 use Rattle.layout.proofs.Parts.{IsText, sumItem, hard-account-was, hard-account-is, hard-gap-was, hard-gap-is, value-was, currency-was, currency-is, hard-gap-empty, currency-empty}
-use Rattle.layout.proofs.Bodies.{Anew, Was, again-is, every-right, print-detail, print-account, print-sum, value-blank}
+use Rattle.layout.proofs.Bodies.{Anew, Was, again-is, print-detail, print-account, print-sum, value-blank}
 
 -- ---- the tolerance
 
@@ -125,7 +126,7 @@ balance-was s i j t rs T A h f =
     let cu = must-inv (e .0) (currency s (e .0)) (k .0) (k .1) (k .3) in
     let w = k .5 ∙ ap (λ z. z ++ k .2) (currency-empty s (e .0) (k .0) (k .1) cu) ∙ l .1 ∙ ap (λ z. valued 26 (b .0) (c .0) (e .0) z (c .1) ∷ d .1) (l .0) in
     built s j (b .0) (c .0) (e .0) (d .0) (a .1) (a .2) (d .1) (c .1) (H .is) x X (d .2) (e .3) (subst (λ z. currency s (e .0) ≡ To z (k .1)) (l .0) cu)
-    (p ∙ q ∙ w) rs (a .5) (every-right (a .1) (a .2) g)
+    (p ∙ q ∙ w) rs (a .5) (every-right Fine (a .1) (a .2) g)
   where
     built : (s : List ℕ) (j g e c u : ℕ) (fs bs ts : List Detail) (v : Value) → IsText Account 25 (items s fs) → expression s g ≡ To e v → At s e (drop e s)
         → maybe e (tolerance s e) ≡ To u ts → {zs : List Detail} → hardGap s u ≡ To c zs → {ws : List Detail} → currency s c ≡ To j ws → bs ≡ valued 26 g e c j v ∷ ts

@@ -13,10 +13,10 @@ use Rattle.text.specs.Answer.{Ans, To, Miss}
 use Rattle.text.proofs.TestLaws.{or-left, or-right}
 use Rattle.text.proofs.Ats.{At, at-start, at-next, at-byte}
 use Rattle.text.proofs.Inversions.{not-miss}
+use Rattle.text.specs.Every.{Every}
 use Rattle.amount.specs.Literal.{between}
 use Rattle.amount.specs.declared.detail.Detail.{Detail}
 use Rattle.entry.specs.Forms.{Form, asEntry, directive, blank, formOf}
-use Rattle.ledger.proofs.Places.{Every}
 use Rattle.layout.specs.Meaning.{Item, texted}
 use Rattle.layout.specs.Written.{headText, closing, printed, noItem}
 use Rattle.layout.specs.Claim.{holdsQuote}

@@ -10,12 +10,13 @@ use Rattle.text.specs.Bytes.{isBlank}
 use Rattle.text.specs.Answer.{To, _and_}
 use Rattle.text.proofs.Ats.{At, at-more}
 use Rattle.text.proofs.Inversions.{and-inv, must-inv}
+use Rattle.text.specs.Every.{Every}
+use Rattle.text.proofs.EveryLaws.{every-left, every-right}
 use Rattle.amount.specs.Details.{Rows}
 use Rattle.amount.specs.Amounts.{hardGap, hardCurrency, hardAmount, priceOf}
 use Rattle.amount.specs.declared.detail.Detail.{Detail}
 use Rattle.row.specs.Details.{spanned}
 use Rattle.content.specs.Contents.{hardAccount, hardString, padOf, eventOf}
-use Rattle.ledger.proofs.Places.{Every}
 use Rattle.layout.specs.Written.{headText, closing, noItem, sizeText, valueText, quotes, sumText, amountText, detailText, kindOf, printed}
 use Rattle.layout.specs.Meaning.{Item, texted}
 use Rattle.layout.proofs.Texts.{Tidy}
@@ -106,14 +107,6 @@ pub commodity-anew : Anew hardCurrency
 commodity-anew s i j t rs T A h f =
     text-anew 31 Currency neat-currency currency-blank (λ s i w t C. hard-currency-is w (10 ∷ t) C (after-line t)) print-currency (hard-currency-was A h)
 
-pub every-left : (xs ys : List Detail) → Every Fine (xs ++ ys) → Every Fine xs
-every-left [] ys f = tt
-every-left (x ∷ xs) ys f = (f .0, every-left xs ys (f .1))
-
-pub every-right : (xs ys : List Detail) → Every Fine (xs ++ ys) → Every Fine ys
-every-right [] ys f = f
-every-right (x ∷ xs) ys f = every-right xs ys (f .1)
-
 abbrev pub Was : (List ℕ → ℕ → Rows) → (List Item → Type 0) → Type 0
 Was R G = (s : List ℕ) (i j : ℕ) (t : List ℕ) (rs : List Detail) → Tidy s → At s i t → R s i ≡ To j rs → Every Fine rs → There s j rs G
 
@@ -129,10 +122,10 @@ module _ (P Q : List ℕ → ℕ → Rows) where
       let a = and-inv (P s i) _ j rs h in
       let b = and-inv (hardGap s (a .0)) _ j (a .2) (a .4) in
       let g = subst (Every Fine) (a .5) f in
-      let Z = p s i (a .0) t (a .1) T A (a .3) (every-left (a .1) (a .2) g) in
+      let Z = p s i (a .0) t (a .1) T A (a .3) (every-left Fine (a .1) (a .2) g) in
       let B = hard-gap-was (Z .place) (b .3) in
       let e = b .5 ∙ ap (λ z. z ++ b .2) (B .0) in
-      let U = q s (b .0) j _ (b .2) T (B .1) (b .4) (subst (Every Fine) e (every-right (a .1) (a .2) g)) in
+      let U = q s (b .0) j _ (b .2) T (B .1) (b .4) (subst (Every Fine) e (every-right Fine (a .1) (a .2) g)) in
       record { rest = U .rest; place = U .place; is = (items s (a .1), items s (b .2), Z .is, U .is, ap (items s) (a .5 ∙ ap (λ z. a .1 ++ z) e) ∙ items-append s (a .1) (b .2)) }
 
   pair-is : (s : List ℕ) (i : ℕ) (ms ns : List Item) (t u post : List ℕ) → ((i : ℕ) → At s i (t ++ (32 ∷ (u ++ post))) → Reads s (P s i) ms (32 ∷ (u ++ post)))

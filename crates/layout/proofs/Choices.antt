@@ -16,10 +16,10 @@ use Rattle.text.specs.Leaves.{word}
 use Rattle.text.proofs.TestLaws.{absurd-bool, and-left, and-right}
 use Rattle.text.proofs.Ats.{At}
 use Rattle.text.proofs.Inversions.{and-inv, else-inv, token-inv, not-miss, not-hard}
+use Rattle.text.specs.Every.{Every}
 use Rattle.amount.specs.Details.{Rows}
 use Rattle.amount.specs.declared.detail.Detail.{Detail}
 use Rattle.entry.specs.Forms.{Form as Entry, asEntry}
-use Rattle.ledger.proofs.Places.{Every}
 use Rattle.layout.specs.Meaning.{Item}
 use Rattle.layout.proofs.Numbers.{All}
 use Rattle.layout.proofs.Tokens.{read-if}

@@ -17,6 +17,7 @@ use Rattle.text.specs.Permitted.{clean, sizeLimit}
 use Rattle.text.specs.Answer.{To, Miss}
 use Rattle.text.proofs.TestLaws.{and-left, and-right}
 use Rattle.text.proofs.Ats.{At, at-start, at-next, at-place}
+use Rattle.text.specs.Every.{Every}
 use Rattle.amount.specs.Details.{Rows}
 use Rattle.amount.specs.Literal.{between}
 use Rattle.amount.specs.declared.detail.Detail.{Detail}
@@ -31,7 +32,6 @@ use Rattle.entry.proofs.EntryForms.{entry-form, entry-sound}
 use Rattle.entry.proofs.EntryTold.{form-kind-low}
 use Rattle.ledger.specs.Plain.{Reading, accepted, denied, after, move, moved, readFrom, partAt, plain}
 use Rattle.ledger.proofs.PlainLaws.{read-nil}
-use Rattle.ledger.proofs.Places.{Every}
 use Rattle.layout.specs.Meaning.{Item, texted, naming, itemFor, itemOf, meaning}
 use Rattle.layout.specs.Written.{closing, kindOf, printed, noItem, written}
 use Rattle.layout.specs.Claim.{holdsQuote, quiet, Rewritten, Claim}

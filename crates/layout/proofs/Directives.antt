@@ -21,16 +21,17 @@ use Rattle.content.specs.Contents.{hardAccount, padOf, eventOf, balanceOf, open
 use Rattle.transaction.specs.Transaction.{opening, transaction}
 use Rattle.entry.specs.Directive.{keyword}
 use Rattle.entry.specs.Forms.{Form as Entry, asEntry, dateless, directive, formOf}
-use Rattle.ledger.proofs.Places.{Every}
 use Rattle.layout.specs.Meaning.{Item}
 use Rattle.layout.specs.Written.{dateText}
 use Rattle.layout.proofs.Texts.{Tidy}
 use Rattle.text.proofs.DayLaws.{Day}
+use Rattle.text.specs.Every.{Every}
+use Rattle.text.proofs.EveryLaws.{every-left, every-right}
 use Rattle.layout.proofs.Days.{date-reads}
 use Rattle.layout.proofs.Readings.{items, items-append, Fine, Reads, skip-reads, and-reads, There}
 use Rattle.layout.proofs.Marks.{reached, word-reads, word-misses, line-reads}
 use Rattle.layout.proofs.Parts.{hard-gap-was, hard-gap-is}
-use Rattle.layout.proofs.Bodies.{Again, Anew, every-left, every-right}
+use Rattle.layout.proofs.Bodies.{Again, Anew}
 use Rattle.layout.proofs.Metas.{Metas, MetaStop, metasText, metadata-was, metadata-is, line-empty}
 use Rattle.layout.proofs.Choices.{Choice, First, tried, tried-is, made-first, made-second, entry-misses, Made, made-then}
 
@@ -62,9 +63,9 @@ keyword-was w content anew s i j t rs T A h f =
     let p : rs ≡ c .1 ++ c .2 = a .5 ∙ ap (λ z. z ++ a .2) (word-empty (bytes w) s i (a .0) (a .1) (a .3)) ∙ b .5 ∙ ap (λ z. z ++ b .2) (G .0) ∙ c .5 in
     let q : c .2 ≡ d .2 = d .5 ∙ ap (λ z. z ++ d .2) (line-empty s (c .0) (d .0) (d .1) (d .3)) in
     let g = subst (Every Fine) p f in
-    let C = anew s (b .0) (c .0) _ (c .1) T (G .1) (c .3) (every-left (c .1) (c .2) g) in
+    let C = anew s (b .0) (c .0) _ (c .1) T (G .1) (c .3) (every-left Fine (c .1) (c .2) g) in
     let L = reached {s = s} (line-reach s (c .0) (at-in (C .place))) (d .3) in
-    let M = metadata-was s (d .0) j _ (d .2) T L (d .4) (subst (Every Fine) q (every-right (c .1) (c .2) g)) in
+    let M = metadata-was s (d .0) j _ (d .2) T L (d .4) (subst (Every Fine) q (every-right Fine (c .1) (c .2) g)) in
     record {
       rest = M .0 .rest;
       place = M .0 .place;

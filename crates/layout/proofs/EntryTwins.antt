@@ -9,6 +9,7 @@ use Rattle.text.specs.Bytes.{bytes}
 use Rattle.text.specs.Answer.{To, Miss, _and_, _else_, more, must, maybe, many}
 use Rattle.text.specs.Leaves.{lineEnd, emptyLine}
 use Rattle.text.proofs.InLine.{hasLF}
+use Rattle.text.specs.Every.{Every}
 use Rattle.amount.specs.Details.{Rows}
 use Rattle.amount.specs.Amounts.{hardCurrency, priceOf}
 use Rattle.amount.specs.declared.detail.Detail.{Detail}
@@ -18,7 +19,6 @@ use Rattle.content.specs.Contents.{hardAccount, balanceOf, openOf, padOf, event
 use Rattle.transaction.specs.Transaction.{opening, texts, mark, marks, transaction}
 use Rattle.entry.specs.Directive.{keyword, option, include, tagged}
 use Rattle.entry.specs.Forms.{dateless, directive}
-use Rattle.ledger.proofs.Places.{Every}
 use Rattle.layout.proofs.Misses.{no-miss, first-misses, blank-line, else-miss, no-maybe, no-must, to-miss}
 use Rattle.layout.proofs.Choices.{Choice, tried}
 use Rattle.layout.proofs.Directives.{dateless-tried, keywords}

@@ -14,12 +14,12 @@ use Rattle.text.specs.Tags.{markedAt}
 use Rattle.text.proofs.Ats.{At, at-next, at-one, at-byte, at-drop}
 use Rattle.text.proofs.Inversions.{and-inv, token-inv, else-inv, to-inv}
 use Rattle.text.proofs.TokenEnds.{run-reach}
+use Rattle.text.specs.Every.{Every}
 use Rattle.amount.specs.Details.{span}
 use Rattle.amount.specs.declared.detail.Detail.{Detail}
 use Rattle.row.specs.Details.{spanned}
 use Rattle.transaction.specs.Transaction.{mark, marks}
 use Rattle.transaction.proofs.TransactionEnds.{mark-reach}
-use Rattle.ledger.proofs.Places.{Every}
 use Rattle.layout.specs.Meaning.{Item, texted}
 use Rattle.layout.specs.Written.{detailText, printed}
 use Rattle.layout.proofs.Texts.{at-split}

@@ -17,6 +17,8 @@ use Rattle.text.proofs.Ats.{At, at-one, at-byte, at-drop}
 use Rattle.text.proofs.Inversions.{and-inv, must-inv, else-inv, to-inv, not-miss}
 use Rattle.text.proofs.Steps.{such-within, drop-step}
 use Rattle.text.proofs.TokenEnds.{line-reach}
+use Rattle.text.specs.Every.{Every}
+use Rattle.text.proofs.EveryLaws.{every-left, every-right}
 use Rattle.amount.specs.Details.{Rows, span}
 use Rattle.amount.specs.Literal.{between}
 use Rattle.amount.specs.declared.detail.Detail.{Detail}
@@ -25,7 +27,6 @@ use Rattle.posting.specs.Metadata.{metaStep, metadata}
 use Rattle.posting.specs.Postings.{isFlag, flag, bodyStep}
 use Rattle.transaction.specs.Transaction.{opening, texts, marks, transaction}
 use Rattle.transaction.proofs.TransactionEnds.{opening-reach}
-use Rattle.ledger.proofs.Places.{Every}
 use Rattle.layout.specs.Meaning.{Item, texted}
 use Rattle.layout.proofs.Texts.{at-split, Tidy}
 use Rattle.layout.proofs.Values.{line-blank}
@@ -34,7 +35,6 @@ use Rattle.layout.proofs.Neats.{Neat, neat-none, neat-cons, neat-all, f
 use Rattle.layout.proofs.Readings.{items, items-append, Fine, textItem, Reads, skip-reads, There, none-reads, first-reads, second-reads, span-item, TextKind}
 use Rattle.layout.proofs.Marks.{reached, gap-misses, word-reads}
 use Rattle.layout.proofs.Parts.{text-row}
-use Rattle.layout.proofs.Bodies.{every-left, every-right}
 use Rattle.layout.proofs.Metas.{Metas, metadata-was, line-empty}
 use Rattle.layout.proofs.Directives.{word-empty}
 use Rattle.layout.proofs.Posts.{Posts, body-was, flag-inv, flag-none}
@@ -218,16 +218,16 @@ module _ (s : List ℕ) (g j : ℕ) (t : List ℕ) (rs : List Detail) (T : Tidy 
       let n = and-inv (metadata s (l .0)) _ j (l .2) (l .4) in
       let O = reached {s = s} (opening-reach s g (omega (arith, A .fits))) (o .3) in
       let X = maybe-texts-was s (o .0) (x .0) _ (x .1) T O (x .3) in
-      let f1 = every-right (o .1) (o .2) (subst (Every Fine) (o .5) f) in
-      let f2 = every-right (x .1) (x .2) (subst (Every Fine) (x .5) f1) in
+      let f1 = every-right Fine (o .1) (o .2) (subst (Every Fine) (o .5) f) in
+      let f2 = every-right Fine (x .1) (x .2) (subst (Every Fine) (x .5) f1) in
       let f3 = subst (Every Fine) (m .5) f2 in
-      let M = marks-was s (x .0) (m .0) _ (m .1) (X .place) (m .3) (every-left (m .1) (m .2) f3) in
+      let M = marks-was s (x .0) (m .0) _ (m .1) (X .place) (m .3) (every-left Fine (m .1) (m .2) f3) in
       let le = must-inv (m .0) (lineEnd s (m .0)) (l .0) (l .1) (l .3) in
       let L = reached {s = s} (line-reach s (m .0) (omega (arith, M .place .fits))) le in
       let q = l .5 ∙ ap (λ z. z ++ l .2) (line-empty s (m .0) (l .0) (l .1) le) in
-      let f4 = subst (Every Fine) (n .5) (subst (Every Fine) q (every-right (m .1) (m .2) f3)) in
-      let N = metadata-was s (l .0) (n .0) _ (n .1) T L (n .3) (every-left (n .1) (n .2) f4) in
-      let P = body-was s (n .0) j _ (n .2) T (N .1) (N .0 .place) (n .4) (every-right (n .1) (n .2) f4) in
+      let f4 = subst (Every Fine) (n .5) (subst (Every Fine) q (every-right Fine (m .1) (m .2) f3)) in
+      let N = metadata-was s (l .0) (n .0) _ (n .1) T L (n .3) (every-left Fine (n .1) (n .2) f4) in
+      let P = body-was s (n .0) j _ (n .2) T (N .1) (N .0 .place) (n .4) (every-right Fine (n .1) (n .2) f4) in
       let all = ap (items s) (o .5 ∙ ap (λ z. o .1 ++ z) (x .5 ∙ ap (λ z. x .1 ++ z) (m .5 ∙ ap (λ z. m .1 ++ z) (q ∙ n .5))))
       ∙ items-append s (o .1) _
       ∙ ap (λ z. items s (o .1) ++ z) (items-append s (x .1) _ ∙ ap (λ z. items s (x .1) ++ z) (items-append s (m .1) _ ∙ ap (λ z. items s (m .1) ++ z) (items-append s (n .1) (n .2)))) in

@@ -9,12 +9,12 @@ use Rattle.text.specs.Answer.{To, Miss, _and_, many}
 use Rattle.text.proofs.Joins.{Reach}
 use Rattle.text.proofs.Ats.{At}
 use Rattle.text.proofs.Inversions.{and-inv, maybe-inv}
+use Rattle.text.specs.Every.{Every}
+use Rattle.text.proofs.EveryLaws.{every-left, every-right}
 use Rattle.amount.specs.Details.{Rows}
 use Rattle.amount.specs.declared.detail.Detail.{Detail}
-use Rattle.ledger.proofs.Places.{Every}
 use Rattle.layout.specs.Meaning.{Item}
 use Rattle.layout.proofs.Readings.{items, items-append, Fine, There}
-use Rattle.layout.proofs.Bodies.{every-left, every-right}
 use Rattle.layout.proofs.Misses.{first-misses, no-miss}
 
 -- H holds of each turn's items, G of all; P is what is known of a place where a turn starts
@@ -35,9 +35,9 @@ module _ (s : List ℕ) (f : ℕ → Rows) (P : ℕ → Type 0) (H G : List Item
       go (inl h) ih =
           let a = and-inv (f i) (many f d) j rs h in
           let y = subst (Every Fine) (a .5) g in
-          let T = step i (a .0) t (a .1) p A (a .3) (every-left (a .1) (a .2) y) in
+          let T = step i (a .0) t (a .1) p A (a .3) (every-left Fine (a .1) (a .2) y) in
           let r = subst (Reach (length s) (i + 1)) (a .3) (R i (omega (arith, A .fits))) .ends in
-          let U = ih (a .0) (T .0 .rest) (a .2) (T .1) (T .0 .place) (omega arith) (a .4) (every-right (a .1) (a .2) y) in (
+          let U = ih (a .0) (T .0 .rest) (a .2) (T .1) (T .0 .place) (omega arith) (a .4) (every-right Fine (a .1) (a .2) y) in (
             record {
               rest = U .0 .rest;
               place = U .0 .place;

@@ -30,13 +30,13 @@ use Rattle.amount.proofs.ExpressionEnds.{goes-off}
 use Rattle.row.specs.Details.{spanned, millionths}
 use Rattle.posting.specs.Costs.{comma, Lot, lot, inside, cost}
 use Rattle.posting.proofs.PostingEnds.{comma-reach, cost-reach}
-use Rattle.ledger.proofs.Places.{Every}
 use Rattle.layout.specs.Meaning.{Item, texted, naming}
 use Rattle.layout.specs.Written.{sizeText, valueText, sumText, amountText, detailText, kindOf, printed, digit, dateText, braceEnd}
 use Rattle.layout.proofs.Texts.{at-text}
 use Rattle.layout.proofs.Numbers.{All, digit-is, count-digits, count-points, digit-literal, all-part, size-literal}
 use Rattle.layout.proofs.Values.{Form, digit-blank, run-at, stops-at, Dull, no-expression, digit-minus, digit-space, one-space, shown}
 use Rattle.text.proofs.DayLaws.{Day, date-there}
+use Rattle.text.specs.Every.{Every}
 use Rattle.layout.proofs.Days.{date-reads}
 use Rattle.layout.proofs.Tokens.{Currency}
 use Rattle.layout.proofs.Neats.{Neat, neat-none, neat-join, neat-cons, neat-space, free-range, neat-value, neat-currency, neat-date}

@@ -20,6 +20,7 @@ use Rattle.text.proofs.Ats.{At, at-next, at-one, at-place}
 use Rattle.text.proofs.Inversions.{and-inv, then-inv, token-inv, else-inv, to-inv}
 use Rattle.text.proofs.TestLaws.{differ}
 use Rattle.text.proofs.TokenEnds.{line-reach, empty-reach, byte-reach}
+use Rattle.text.specs.Every.{Every}
 use Rattle.amount.specs.Details.{valued, named}
 use Rattle.amount.specs.Literal.{between}
 use Rattle.amount.specs.Expression.{expression}
@@ -28,7 +29,6 @@ use Rattle.amount.proofs.ExpressionEnds.{expression-reach}
 use Rattle.row.specs.Details.{spanned, millionths}
 use Rattle.posting.specs.Metadata.{quoted, keyAt, key, value, metaLine, metaStep, metadata}
 use Rattle.posting.proofs.PostingEnds.{meta-step-reach, value-reach}
-use Rattle.ledger.proofs.Places.{Every}
 use Rattle.layout.specs.Meaning.{Item, texted, naming}
 use Rattle.layout.specs.Written.{valueText, quotes, detailText, kindOf, printed, metaText}
 use Rattle.layout.proofs.Texts.{at-split, at-between, Tidy}

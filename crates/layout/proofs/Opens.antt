@@ -14,6 +14,8 @@ use Rattle.text.specs.Currencies.{currencyAt}
 use Rattle.text.specs.Lines.{gapAt}
 use Rattle.text.proofs.Ats.{At, at-one}
 use Rattle.text.proofs.Inversions.{and-inv, to-inv}
+use Rattle.text.specs.Every.{Every}
+use Rattle.text.proofs.EveryLaws.{every-left, every-right}
 use Rattle.amount.specs.Details.{Rows, span}
 use Rattle.amount.specs.Literal.{between}
 use Rattle.amount.specs.declared.detail.Detail.{Detail}
@@ -23,7 +25,6 @@ use Rattle.posting.specs.Costs.{comma}
 use Rattle.posting.proofs.PostingEnds.{comma-reach}
 use Rattle.content.specs.Contents.{hardAccount, oneCurrency, further, currencies, booking, openOf}
 use Rattle.content.proofs.ContentEnds.{further-reach}
-use Rattle.ledger.proofs.Places.{Every}
 use Rattle.layout.specs.Meaning.{Item, texted}
 use Rattle.layout.specs.Written.{quotes, detailText, printed}
 use Rattle.layout.proofs.Texts.{Tidy}
@@ -34,7 +35,7 @@ use Rattle.layout.proofs.Readings.{items, items-append, Fine, textItem,
 use Rattle.layout.proofs.Readings.{TextKind, there-map}
 use Rattle.layout.proofs.Marks.{After, after-space, after-line, currency-blank, account-blank, reached, byte-reads, gap-reads, gap-misses, after-comma}
 use Rattle.layout.proofs.Parts.{IsText, hard-account-was, hard-account-is, quoted-was, quoted-is, currency-was, currency-is, currency-kind, text-row, one-span, maybe-gap-was}
-use Rattle.layout.proofs.Bodies.{Again, Anew, Was, again-is, every-left, every-right, print-detail, print-account, quote-blank}
+use Rattle.layout.proofs.Bodies.{Again, Anew, Was, again-is, print-detail, print-account, quote-blank}
 use Rattle.layout.proofs.Balances.{byte-empty}
 use Rattle.layout.proofs.Loops.{many-was}
 
@@ -142,10 +143,10 @@ unfolding currencies
 currencies-was s T i j t rs A h f =
     let a = and-inv (oneCurrency s i) _ j rs h in
     let g = subst (Every Fine) (a .5) f in
-    let O = one-currency-was s i (a .0) t (a .1) T A (a .3) (every-left (a .1) (a .2) g) in
+    let O = one-currency-was s i (a .0) t (a .1) T A (a .3) (every-left Fine (a .1) (a .2) g) in
     let M =
     many-was s (further s) (λ _. Unit {0}) (IsText Currency 31) Coins (further-reach s) (further-was s T) no-coins join-coins (suc (length s)) (a .0) j _ (a .2) tt (O .place)
-    (omega (arith, O .place .fits)) (a .4) (every-right (a .1) (a .2) g) in
+    (omega (arith, O .place .fits)) (a .4) (every-right Fine (a .1) (a .2) g) in
     let o = O .is in
     record {
       rest = M .0 .rest;
@@ -286,7 +287,7 @@ open-anew s i j t rs T A h f =
     let b = and-inv (maybe (a .0) (gap s (a .0) and λ g. currencies s g)) _ j (a .2) (a .4) in
     let g = subst (Every Fine) (a .5) f in
     let H = hard-account-was A (a .3) in
-    let P = maybe-currencies-was s T (a .0) (b .0) _ (b .1) (H .place) (b .3) (every-left (b .1) (b .2) (subst (Every Fine) (b .5) (every-right (a .1) (a .2) g))) in
+    let P = maybe-currencies-was s T (a .0) (b .0) _ (b .1) (H .place) (b .3) (every-left Fine (b .1) (b .2) (subst (Every Fine) (b .5) (every-right Fine (a .1) (a .2) g))) in
     let B = booking-was s T (b .0) j _ (b .2) (P .place) (b .4) in
     let e =
     ap (items s) (a .5 ∙ ap (λ z. a .1 ++ z) (b .5)) ∙ items-append s (a .1) (b .1 ++ b .2) ∙ ap (λ z. items s (a .1) ++ z) (items-append s (b .1) (b .2))

@@ -19,6 +19,7 @@ use Rattle.text.specs.Leaves.{named, gap, string, account, currency}
 use Rattle.text.proofs.TokenEnds.{gap-reach}
 use Rattle.text.proofs.Ats.{At, at-next, at-one, at-more, at-place, at-in}
 use Rattle.text.proofs.Inversions.{and-inv, must-inv, then-inv, token-inv, to-inv, named-inv}
+use Rattle.text.specs.Every.{Every}
 use Rattle.amount.specs.Details.{span, valued, Rows}
 use Rattle.amount.specs.Literal.{between}
 use Rattle.amount.specs.Expression.{expression}
@@ -29,7 +30,6 @@ use Rattle.amount.proofs.ValueSizes.{Smalls, expression-small}
 use Rattle.row.specs.Details.{spanned, millionths}
 use Rattle.posting.specs.Metadata.{quoted}
 use Rattle.content.specs.Contents.{hardAccount}
-use Rattle.ledger.proofs.Places.{Every}
 use Rattle.layout.specs.Meaning.{Item, texted, naming}
 use Rattle.layout.specs.Written.{valueText, quotes}
 use Rattle.layout.proofs.Texts.{at-split, at-between, Tidy}

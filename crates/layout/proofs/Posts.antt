@@ -22,6 +22,8 @@ use Rattle.text.proofs.Inversions.{and-inv, then-inv, token-inv, else-inv, to-i
 use Rattle.text.proofs.TestLaws.{differ, absurd-bool, and-right}
 use Rattle.text.proofs.Steps.{run-out, run-first, such-within, head-drop, getD-past, drop-step}
 use Rattle.text.proofs.TokenEnds.{line-reach}
+use Rattle.text.specs.Every.{Every}
+use Rattle.text.proofs.EveryLaws.{every-left, every-right}
 use Rattle.amount.specs.Details.{Rows, named}
 use Rattle.amount.specs.Literal.{between}
 use Rattle.amount.specs.declared.detail.Detail.{Detail}
@@ -29,7 +31,6 @@ use Rattle.row.specs.Details.{spanned, millionths}
 use Rattle.posting.specs.Metadata.{keyAt, key, metaLine, metaStep}
 use Rattle.posting.specs.Postings.{isFlag, flag, postingFlag, units, postingLine, posting, bodyStep, body}
 use Rattle.posting.proofs.PostingEnds.{posting-flag-reach, body-step-reach}
-use Rattle.ledger.proofs.Places.{Every}
 use Rattle.layout.specs.Meaning.{Item, texted, naming}
 use Rattle.layout.specs.Written.{detailText, kindOf, printed, postingText}
 use Rattle.layout.proofs.Texts.{at-between, Tidy}
@@ -40,7 +41,7 @@ use Rattle.layout.proofs.Neats.{Neat, Free, neat-none, neat-join, neat-
 use Rattle.layout.proofs.Readings.{itemD, items, items-append, Fine, Reads, row-reads, skip-reads, and-reads, then-reads, There, first-reads, Loop, done, turn, loop-reads}
 use Rattle.layout.proofs.Marks.{account-blank, reached, line-reads, part-blank}
 use Rattle.layout.proofs.Parts.{gap-was, account-was, account-is}
-use Rattle.layout.proofs.Bodies.{print-detail, every-left, every-right}
+use Rattle.layout.proofs.Bodies.{print-detail}
 use Rattle.layout.proofs.Misses.{blank-line, else-miss}
 use Rattle.layout.proofs.Loops.{many-was}
 use Rattle.layout.proofs.Metas.{Metas, no-metas, one-meta, meta-kind, MetaStop, metasText, metadata-was, metadata-is, metas-print, metas-neat, metas-behind, line-empty, indent-reads}
@@ -356,8 +357,8 @@ unfolding posting
 posting-was s i j t rs T A m h f =
     let a = and-inv (postingLine s i) _ j rs h in
     let g = subst (Every Fine) (a .5) f in
-    let L = post-line-was s i (a .0) t (a .1) T A m (a .3) (every-left (a .1) (a .2) g) in
-    let M = metadata-was s (a .0) j _ (a .2) T (L .place) (a .4) (every-right (a .1) (a .2) g) in
+    let L = post-line-was s i (a .0) t (a .1) T A m (a .3) (every-left Fine (a .1) (a .2) g) in
+    let M = metadata-was s (a .0) j _ (a .2) T (L .place) (a .4) (every-right Fine (a .1) (a .2) g) in
     let l = L .is in (
       record {
         rest = M .0 .rest;

@@ -14,11 +14,12 @@ use Rattle.text.specs.Leaves.{token}
 use Rattle.text.specs.declared.Read.{Read}
 use Rattle.text.proofs.Ats.{At}
 use Rattle.text.proofs.Inversions.{maybe-inv}
+use Rattle.text.specs.Every.{Every}
+use Rattle.text.proofs.EveryLaws.{every-append}
 use Rattle.amount.specs.Details.{Rows, span}
 use Rattle.amount.specs.Literal.{between}
 use Rattle.amount.specs.declared.detail.Detail.{Detail}
 use Rattle.row.specs.Details.{spanned, millionths}
-use Rattle.ledger.proofs.Places.{Every, every-append}
 use Rattle.layout.specs.Meaning.{Item, texted, naming, itemFor}
 
 -- ---- items of details

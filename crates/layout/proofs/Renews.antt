@@ -25,12 +25,12 @@ use Rattle.content.specs.Contents.{hardAccount, padOf, eventOf, balanceOf, open
 use Rattle.transaction.specs.Transaction.{transaction}
 use Rattle.entry.specs.Directive.{keyword}
 use Rattle.entry.specs.Forms.{Form as Entry, asEntry, dateless, directive}
-use Rattle.ledger.proofs.Places.{Every}
 use Rattle.layout.specs.Meaning.{Item, texted}
 use Rattle.layout.specs.Written.{kindOf, printed, dateText, headText, closing, noItem}
 use Rattle.layout.proofs.Texts.{Tidy}
 use Rattle.layout.proofs.Values.{run-past}
 use Rattle.text.proofs.DayLaws.{Day, date-there, date-head}
+use Rattle.text.specs.Every.{Every}
 use Rattle.layout.proofs.Tokens.{read-if}
 use Rattle.layout.proofs.Neats.{Neat, neat-join, neat-cons, neat-space, neat-none, free-feed}
 use Rattle.layout.proofs.Readings.{items, Fine}

@@ -7,9 +7,9 @@ use mathlib.Core.List.{List, []}
 use lib.ListN.{drop}
 use Rattle.text.specs.Answer.{To, Miss}
 use Rattle.text.proofs.Inversions.{else-inv}
+use Rattle.text.specs.Every.{Every}
 use Rattle.amount.specs.Literal.{between}
 use Rattle.entry.specs.Forms.{Form, directive, blank, formOf}
-use Rattle.ledger.proofs.Places.{Every}
 use Rattle.layout.specs.Claim.{holdsQuote, Claim}
 use Rattle.layout.proofs.Texts.{Tidy}
 use Rattle.layout.proofs.Readings.{Fine}

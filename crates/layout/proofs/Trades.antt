@@ -12,11 +12,11 @@ use Rattle.text.specs.Answer.{To}
 use Rattle.text.proofs.Ats.{At, at-drop, at-in}
 use Rattle.transaction.specs.Transaction.{transaction}
 use Rattle.entry.specs.Forms.{Form as Entry, asEntry, dateless}
-use Rattle.ledger.proofs.Places.{Every}
 use Rattle.layout.specs.Meaning.{Item, texted}
 use Rattle.layout.specs.Written.{detailText, kindOf, printed, dateText, headText, closing, noItem}
 use Rattle.layout.proofs.Texts.{Tidy}
 use Rattle.text.proofs.DayLaws.{Day}
+use Rattle.text.specs.Every.{Every}
 use Rattle.layout.proofs.Neats.{neat-none}
 use Rattle.layout.proofs.Readings.{items, Fine, textItem, Reads, must-reads, skip-reads, and-reads}
 use Rattle.layout.proofs.Marks.{line-reads}

@@ -14,11 +14,12 @@ use Rattle.text.specs.Leaves.{gap, byte}
 use Rattle.text.proofs.Ats.{At, at-one, at-byte}
 use Rattle.text.proofs.Inversions.{and-inv, else-inv}
 use Rattle.text.proofs.TokenEnds.{byte-reach}
+use Rattle.text.specs.Every.{Every}
+use Rattle.text.proofs.EveryLaws.{every-left, every-right}
 use Rattle.amount.specs.Amounts.{amount}
 use Rattle.amount.specs.declared.detail.Detail.{Detail}
 use Rattle.posting.specs.Costs.{price, cost}
 use Rattle.posting.specs.Postings.{units}
-use Rattle.ledger.proofs.Places.{Every}
 use Rattle.layout.specs.Meaning.{Item}
 use Rattle.layout.specs.Written.{valueText, sumText, detailText, kindOf, printed}
 use Rattle.layout.proofs.Values.{Form, line-blank, shown}
@@ -27,7 +28,7 @@ use Rattle.layout.proofs.Neats.{Neat, neat-none, neat-join, neat-cons, 
 use Rattle.layout.proofs.Readings.{items, items-append, Fine, Reads, skip-reads, and-reads, maybe-reads, maybe-none, There, first-reads, second-reads, maybe-was, there-map}
 use Rattle.layout.proofs.Marks.{After, after-space, after-line, reached, byte-reads, gap-reads, gap-misses}
 use Rattle.layout.proofs.Parts.{sumItem, amount-kind, price-kind, total-kind, amount-was, amount-is, gap-was, maybe-gap-was}
-use Rattle.layout.proofs.Bodies.{print-detail, print-sum, value-blank, every-left, every-right}
+use Rattle.layout.proofs.Bodies.{print-detail, print-sum, value-blank}
 use Rattle.layout.proofs.Balances.{byte-empty}
 use Rattle.layout.proofs.Lots.{Lotted, costItem, lotText, lotLast, lot-neat, cost-was, cost-is, cost-print}
 
@@ -183,10 +184,10 @@ units-was s i j t rs A h f =
     let b = and-inv (amount 26 s (a .0)) _ j (a .2) (a .4) in
     let c = and-inv (maybe (b .0) (gap s (b .0) and λ g. cost s g)) _ j (b .2) (b .4) in
     let f1 = subst (Every Fine) (b .5) (subst (Every Fine) e f) in
-    let M = amount-was 26 amount-kind (G .1) (b .3) (every-left (b .1) (b .2) f1) in
-    let f2 = subst (Every Fine) (c .5) (every-right (b .1) (b .2) f1) in
-    let K = maybe-cost-was s (b .0) (c .0) _ (c .1) (M .place) (c .3) (every-left (c .1) (c .2) f2) in
-    let P = maybe-price-was s (c .0) j _ (c .2) (K .place) (c .4) (every-right (c .1) (c .2) f2) in
+    let M = amount-was 26 amount-kind (G .1) (b .3) (every-left Fine (b .1) (b .2) f1) in
+    let f2 = subst (Every Fine) (c .5) (every-right Fine (b .1) (b .2) f1) in
+    let K = maybe-cost-was s (b .0) (c .0) _ (c .1) (M .place) (c .3) (every-left Fine (c .1) (c .2) f2) in
+    let P = maybe-price-was s (c .0) j _ (c .2) (K .place) (c .4) (every-right Fine (c .1) (c .2) f2) in
     let m = M .is in
     let q =
     ap (items s) (e ∙ b .5 ∙ ap (λ z. b .1 ++ z) (c .5)) ∙ items-append s (b .1) (c .1 ++ c .2) ∙ ap (λ z. items s (b .1) ++ z) (items-append s (c .1) (c .2))

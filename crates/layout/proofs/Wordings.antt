@@ -19,6 +19,7 @@ use Rattle.text.proofs.Ats.{At, at-next, at-one, at-start}
 use Rattle.text.proofs.Inversions.{and-inv, must-inv, token-inv, to-inv}
 use Rattle.text.proofs.TestLaws.{absurd-bool}
 use Rattle.text.proofs.TokenEnds.{word-reach}
+use Rattle.text.specs.Every.{Every}
 use Rattle.amount.specs.Details.{span, Rows}
 use Rattle.amount.specs.Amounts.{hardGap}
 use Rattle.amount.specs.declared.detail.Detail.{Detail}
@@ -26,7 +27,6 @@ use Rattle.posting.specs.Metadata.{quoted}
 use Rattle.content.specs.Contents.{hardString}
 use Rattle.entry.specs.Forms.{blank, directive, Form as Entry, asEntry, formOf}
 use Rattle.entry.specs.Directive.{option, include, tagged}
-use Rattle.ledger.proofs.Places.{Every}
 use Rattle.layout.specs.Written.{headText, closing, kindOf, noItem, printed, quotes, detailText}
 use Rattle.layout.specs.Meaning.{Item, texted}
 use Rattle.layout.proofs.Texts.{at-split, Tidy}

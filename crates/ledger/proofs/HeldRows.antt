@@ -11,6 +11,8 @@ use lib.Seq.{getD-drop, length-take-le}
 use Rattle.decimal.specs.Exact.{twosOf}
 use Rattle.text.specs.Permitted.{clean, sizeLimit}
 use Rattle.text.proofs.PermittedLaws.{clean-bytes}
+use Rattle.text.specs.Every.{Every}
+use Rattle.text.proofs.EveryLaws.{every-append}
 use Rattle.amount.specs.declared.detail.Detail.{Detail}
 use Rattle.amount.proofs.RowCounts.{postingKind, refusalKind, anyKinds, Second, unset, within, day, flagged, Rising}
 use Rattle.row.specs.declared.table.Row.{Row}
@@ -22,9 +24,8 @@ use Rattle.row.proofs.ReadBack.{bits-low}
 use Rattle.entry.specs.Entry.{Reads, detailRow, rowsOf, got, refuse, entryOf}
 use Rattle.entry.proofs.EntryForms.{entry-form, entry-sound}
 use Rattle.entry.proofs.EntryTold.{form-placed, form-date, form-kind-low}
-use Rattle.entry.proofs.EntryLines.{Each, OnLine}
+use Rattle.entry.proofs.EntryLines.{OnLine}
 use Rattle.ledger.specs.Plain.{move, moved, Reading, accepted, denied, after, readFrom, partAt, part, plain}
-use Rattle.ledger.proofs.Places.{Every, every-append}
 use Rattle.ledger.proofs.PlainLaws.{read-got, read-refuse, Accepts, part-kept}
 
 -- what a row holds beside its span and line, in a text of n bytes
@@ -127,7 +128,7 @@ pub record WholeRow (r : Row) : Type 0 where
   pub held : Held r
   pub flag : r .kind ≡ postingKind → r .p < 256
 
-rows-held : (s : List ℕ) (rs : List Row) → length s ≤ sizeLimit → Each (OnLine refusalKind 0 1 s) rs → Every (Sized (length s)) rs → Every WholeRow rs
+rows-held : (s : List ℕ) (rs : List Row) → length s ≤ sizeLimit → Every (OnLine refusalKind 0 1 s) rs → Every (Sized (length s)) rs → Every WholeRow rs
 rows-held s [] h e f = tt
 rows-held s (r ∷ rs) h (e, es) (f, fs) = (
   record {

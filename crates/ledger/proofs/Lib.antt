@@ -7,11 +7,7 @@ pub mod ScanLaws
 pub mod PartLaws
 pub mod LinedRows
 pub mod ReadLaws
-pub mod Places
 pub mod HeldRows
-pub mod ExpressionPlaces
-pub mod PostingPlaces
-pub mod EntryPlaces
 pub mod StrictCode
 pub mod JudgeLaws
 pub mod StrictScan

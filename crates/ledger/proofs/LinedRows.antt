@@ -7,12 +7,13 @@ use mathlib.Core.List.{List, [], _∷_, map}
 use borrow.Author.Tests.{le-leb}
 use lib.ListN.{length, take, length-map}
 use Rattle.text.specs.Permitted.{sizeLimit}
+use Rattle.text.specs.Every.{Every}
 use Rattle.row.specs.declared.table.Row.{Row}
 use Rattle.row.specs.Row.{feeds, lined, pour}
 use Rattle.row.specs.steps.Sweep.{linesSet}
 use Rattle.row.proofs.PourLaws.{pour-room}
 use Rattle.row.proofs.SweepLaws.{Low, lines-poured}
-use Rattle.entry.proofs.EntryLines.{Each, OnLine}
+use Rattle.entry.proofs.EntryLines.{OnLine}
 use Rattle.ledger.specs.Plain.{accepted}
 use Rattle.ledger.specs.Answers.{left}
 use Rattle.ledger.specs.steps.Scan.{withLine}
@@ -28,12 +29,12 @@ module _ (top : ℕ) (s : List ℕ) where
   line-of : (r : Row) → OnLine top 0 1 s r → 1 + feeds (take (r .start) s) ≡ r .line
   line-of r h = ap (λ k. 1 + feeds (take k s)) (h .place ∙ zero-add (h .into)) ∙ sym (h .lines)
 
-  rows-lined : (rs : List Row) → Each (OnLine top 0 1 s) rs → map (lined s) rs ≡ rs
+  rows-lined : (rs : List Row) → Every (OnLine top 0 1 s) rs → map (lined s) rs ≡ rs
   unfolding lined
   rows-lined [] h = refl
   rows-lined (r ∷ rs) (h, hs) = rw (line-of r h, rows-lined rs hs)
 
-  rows-low : (rs : List Row) → length s ≤ sizeLimit → Each (OnLine top 0 1 s) rs → Low (map (withLine 0) rs)
+  rows-low : (rs : List Row) → length s ≤ sizeLimit → Every (OnLine top 0 1 s) rs → Low (map (withLine 0) rs)
   rows-low [] l h = tt
   rows-low (r ∷ rs) l (h, hs) = (omega (arith, h .place, h .inside), rows-low rs l hs)
 

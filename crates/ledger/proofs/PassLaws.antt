@@ -9,10 +9,11 @@ use borrow.Author.Tests.{eqb-true}
 use lib.Dec.{eqb}
 use lib.ListN.{length, drop, length-drop}
 use lib.Seq.{take-append-le, drop-append-le, drop-append-seam}
+use Rattle.text.specs.Every.{Every}
 use Rattle.amount.specs.Literal.{between}
 use Rattle.row.specs.declared.table.Row.{Row}
 use Rattle.row.proofs.PourLaws.{le-or-lt}
-use Rattle.entry.proofs.EntryLines.{Each, OnLine}
+use Rattle.entry.proofs.EntryLines.{OnLine}
 use Rattle.ledger.specs.Plain.{moved, Reading, accepted, denied}
 use Rattle.ledger.specs.Strict.{objection, firstRefused}
 use Rattle.ledger.specs.Strictness.{Passes}
@@ -49,7 +50,7 @@ same-text : (x y : List ℕ) (r : Row) → r .end ≤ length x → objection (x 
 unfolding objection
 same-text x y r h = rw (between-append x y (r .start) (r .end) h)
 
-pub passes-first : (top l : ℕ) (x y : List ℕ) (rs : List Row) → Each (OnLine top 0 l x) rs → Passes (x ++ y) rs → Passes x rs
+pub passes-first : (top l : ℕ) (x y : List ℕ) (rs : List Row) → Every (OnLine top 0 l x) rs → Passes (x ++ y) rs → Passes x rs
 passes-first top l x y [] e h = tt
 passes-first top l x y (r ∷ rs) (e, es) (h, hs) = (sym (same-text x y r (omega (arith, e .ends))) ∙ h, passes-first top l x y rs es hs)
 

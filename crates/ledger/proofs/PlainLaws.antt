@@ -11,6 +11,7 @@ use lib.Dec.{ltb}
 use lib.ListN.{length, getD, take, drop, length-append, length-map, take-append-drop, List·getD-append}
 use lib.Seq.{drop-at, getD-drop, length-take-le, take-append-le, take-append-add}
 use Rattle.text.specs.Permitted.{clean}
+use Rattle.text.specs.Every.{Every}
 use Rattle.amount.proofs.RowCounts.{refusalKind, midLine}
 use Rattle.row.specs.declared.table.Row.{Row}
 use Rattle.row.specs.Row.{feeds}
@@ -18,7 +19,7 @@ use Rattle.row.proofs.LineLaws.{feeds-append}
 use Rattle.entry.specs.Entry.{Reads, got, refuse, entryOf}
 use Rattle.entry.proofs.EntryForms.{entry-sound}
 use Rattle.entry.proofs.EntryTold.{entry-few}
-use Rattle.entry.proofs.EntryLines.{Each, OnLine, entry-lines}
+use Rattle.entry.proofs.EntryLines.{OnLine, entry-lines}
 use Rattle.ledger.specs.Plain.{move, moved, Reading, accepted, denied, after, readFrom, partAt, part}
 use Rattle.ledger.proofs.RowOrder.{Rises, rises-append, rises-moved, entry-rises}
 
@@ -45,7 +46,7 @@ read-refuse f a l (b ∷ s) k p h e = rw (e, readFrom)
 pub record Kept (top a l : ℕ) (s : List ℕ) (rs : List Row) : Type 0 where
   pub few : length rs ≤ length s
   pub order : Rises a (a + length s) rs
-  pub lines : Each (OnLine top a l s) rs
+  pub lines : Every (OnLine top a l s) rs
 
 -- moved, and under a higher bound of kinds
 pub kept-move : (top high a l b m : ℕ) (s : List ℕ) (rs : List Row) → top ≤ high → Kept top b m s rs → Kept high (a + b) (l + m) s (moved a l rs)
@@ -53,7 +54,7 @@ unfolding move
 kept-move top high a l b m s rs g k =
     record { few = rw length-map (k .few); order = rw (add-assoc a b (length s)) (rises-moved a l b (b + length s) rs (k .order)); lines = each rs (k .lines) }
   where
-    each : (rs : List Row) → Each (OnLine top b m s) rs → Each (OnLine high (a + b) (l + m) s) (moved a l rs)
+    each : (rs : List Row) → Every (OnLine top b m s) rs → Every (OnLine high (a + b) (l + m) s) (moved a l rs)
     each [] h = tt
     each (r ∷ rs) (h, hs) = (
       record {
@@ -99,7 +100,7 @@ kept-append top a l u v xs ys k j =
     second-early zero h = rw length-append (omega (arith, mid-none v))
     second-early (suc i) h = rw (length-append, mid-second u v (suc i) (omega arith)) (omega arith)
 
-    rest : (ys : List Row) → Each (OnLine top (a + length u) (l + feeds u) v) ys → Each (OnLine top a l (u ++ v)) ys
+    rest : (ys : List Row) → Every (OnLine top (a + length u) (l + feeds u) v) ys → Every (OnLine top a l (u ++ v)) ys
     rest [] h = tt
     rest (r ∷ ys) (h, hs) = (
       record {
@@ -114,7 +115,7 @@ kept-append top a l u v xs ys k j =
       rest ys hs,
     )
 
-    first : (xs : List Row) → Each (OnLine top a l u) xs → Each (OnLine top a l (u ++ v)) (xs ++ ys)
+    first : (xs : List Row) → Every (OnLine top a l u) xs → Every (OnLine top a l (u ++ v)) (xs ++ ys)
     first [] h = rest ys (j .lines)
     first (r ∷ xs) (h, hs) = (
       record {

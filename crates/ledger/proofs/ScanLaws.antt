@@ -21,12 +21,12 @@ use Rattle.entry.specs.declared.entry.Entry.{Entry}
 use Rattle.entry.specs.steps.Settled.{ownRow, kindOf, entryAnswer, formRows, EntryPoured}
 use Rattle.entry.proofs.EntryForms.{entry-form, entry-sound}
 use Rattle.entry.proofs.EntryTold.{entry-few}
+use Rattle.entry.proofs.EntryPlaces.{entry-place}
 use Rattle.ledger.specs.Plain.{moved, accepted, denied, after, readFrom}
 use Rattle.ledger.specs.steps.Scan.{withLine, scanned}
 use Rattle.ledger.proofs.PlainLaws.{read-nil, read-got, read-refuse}
 use Rattle.ledger.proofs.MoveLaws.{after-none, after-after, read-bound}
 use Rattle.ledger.proofs.LaidRows.{entry-laid}
-use Rattle.ledger.proofs.EntryPlaces.{entry-place}
 
 -- ---- one entry of a scan
 

@@ -1,4 +1,4 @@
--- Where the forms of rules 12, 13 and 16 end: at or past their start, and within the text.
+-- Where the forms of rules 12, 13 and 16 end: at or past their start, and within the text, where a refusal stands too.
 use Prim.Native.Nat.{ℕ, suc, _+_, _≤_}
 use native.Mathlib.Omega.{arith}
 use mathlib.Core.Path.{refl}

@@ -11,6 +11,7 @@ use lib.Seq.{drop-at}
 use mir.Syntax.{w64}
 use mir.Val.{Fits}
 use Rattle.text.specs.Permitted.{sizeLimit}
+use Rattle.text.specs.Every.{Every}
 use Rattle.row.specs.declared.table.Row.{Row}
 use Rattle.row.specs.Row.{rowsBytes, rowsIn}
 use Rattle.row.specs.Work.{cleared}
@@ -19,7 +20,6 @@ use Rattle.row.proofs.PourLaws.{length-rowsBytes}
 use Rattle.ledger.specs.Plain.{Reading, accepted, denied, plain}
 use Rattle.ledger.specs.Answers.{answer, left}
 use Rattle.ledger.specs.declared.read.Answer.{Answer as Got}
-use Rattle.ledger.proofs.Places.{Every}
 use Rattle.ledger.specs.steps.Scan.{scanned}
 use Rattle.ledger.proofs.PlainLaws.{Accepts, Kept, read-kept}
 use Rattle.ledger.proofs.ReadLaws.{plain-reads}

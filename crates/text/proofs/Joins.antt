@@ -1,5 +1,5 @@
 -- Laws of the joins of readers, over their answers alone.
---     Reach   what is read ends at i or after it, and within n
+--     Reach   what is read ends at i or after it, and within n; a refusal stands within n
 --     Same    two answers are the same and end before m
 use Prim.Native.Nat.{ℕ, zero, suc, _+_, _≤_, _<_}
 use native.Mathlib.Omega.{arith}
@@ -13,7 +13,7 @@ use Rattle.text.specs.Answer.{Ans, To, Miss, Hard, _then_, must, _else_,
 abbrev pub Ends : {A : Type 0} → ℕ → ℕ → Ans A → Type 0
 Ends n i (To j x) = (i ≤ j) × (j ≤ n)
 Ends n i Miss = Unit {0}
-Ends n i (Hard k p) = Unit {0}
+Ends n i (Hard k p) = p ≤ n
 
 pub record Reach {A : Type 0} (n i : ℕ) (a : Ans A) : Type 0 where
   pub ends : Ends n i a
@@ -24,8 +24,8 @@ to-reach n i j x h l = record { ends = (h, l) }
 pub miss-reach : {A : Type 0} (n i : ℕ) → Reach {A = A} n i Miss
 miss-reach n i = record { ends = tt }
 
-pub hard-reach : {A : Type 0} (n i k p : ℕ) → Reach {A = A} n i (Hard k p)
-hard-reach n i k p = record { ends = tt }
+pub hard-reach : {A : Type 0} (n i k p : ℕ) → p ≤ n → Reach {A = A} n i (Hard k p)
+hard-reach n i k p h = record { ends = h }
 
 -- a choice by a test, where f makes an answer of what is chosen
 pub cond-reach : {R A : Type 0} (f : R → Ans A) (n i : ℕ) (b : Bool) (x y : R)
@@ -38,19 +38,19 @@ pub then-reach : {A B : Type 0} (n i k : ℕ) (a : Ans A) (g : ℕ → A → Ans
 unfolding _then_
 then-reach n i k (To j x) g r f = f j x (r .ends .0) (r .ends .1)
 then-reach n i k Miss g r f = miss-reach n k
-then-reach n i k (Hard l p) g r f = hard-reach n k l p
+then-reach n i k (Hard l p) g r f = hard-reach n k l p (r .ends)
 
 module _ {A : Type 0} (n : ℕ) where
   pub reach-from : (i j : ℕ) (a : Ans A) → j ≤ i → Reach n i a → Reach n j a
   reach-from i j (To k x) h r = record { ends = omega arith }
   reach-from i j Miss h r = miss-reach n j
-  reach-from i j (Hard k p) h r = hard-reach n j k p
+  reach-from i j (Hard k p) h r = hard-reach n j k p (r .ends)
 
-  pub must-reach : (i at : ℕ) (a : Ans A) → Reach n i a → Reach n i (must at a)
+  pub must-reach : (i at : ℕ) (a : Ans A) → at ≤ n → Reach n i a → Reach n i (must at a)
   unfolding must
-  must-reach i at (To k x) r = r
-  must-reach i at Miss r = hard-reach n i 4 at
-  must-reach i at (Hard k p) r = r
+  must-reach i at (To k x) h r = r
+  must-reach i at Miss h r = hard-reach n i 4 at h
+  must-reach i at (Hard k p) h r = r
 
   pub else-reach : (i : ℕ) (a b : Ans A) → Reach n i a → Reach n i b → Reach n i (a else b)
   unfolding _else_
@@ -70,7 +70,7 @@ module _ {A : Type 0} (n : ℕ) where
   unfolding _and_
   and-reach i k (To j xs) g r f = more-reach k xs (g j) (f j (r .ends .0) (r .ends .1))
   and-reach i k Miss g r f = miss-reach n k
-  and-reach i k (Hard l p) g r f = hard-reach n k l p
+  and-reach i k (Hard l p) g r f = hard-reach n k l p (r .ends)
 
   pub maybe-reach : (i at : ℕ) (a : Ans (List A)) → i ≤ at → at ≤ n → Reach n i a → Reach n i (maybe at a)
   unfolding maybe

@@ -1,4 +1,5 @@
 pub mod TestLaws
+pub mod EveryLaws
 pub mod Steps
 pub mod ByteLaws
 pub mod RunLaws

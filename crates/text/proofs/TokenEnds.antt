@@ -1,4 +1,4 @@
--- Where the token readers end: what is read ends after its start and within the text.
+-- Where the token readers end: what is read ends after its start and within the text, where a refusal stands too.
 use Prim.Native.Nat.{ℕ, suc, _+_, _-_, _≤_, _<_}
 use native.Mathlib.Omega.{arith}
 use mathlib.Core.Path.{_≡_, refl, sym}
@@ -114,7 +114,7 @@ module _ {A : Type 0} (s : List ℕ) (at : ℕ) where
       let r = run-reach inAccount s (at + 1) (omega arith) in
       let q = parts-from (drop j s) j in
       cond-reach (named at) (length s) (at + 1) (partFollows s j) (AccountRead.To (partsFrom (drop j s) j)) AccountRead.Hard
-      (λ _. to-reach (length s) (at + 1) (partsFrom (drop j s) j) [] (omega arith) (omega (arith, length-drop j s))) (λ _. hard-reach (length s) (at + 1) 4 at))
+      (λ _. to-reach (length s) (at + 1) (partsFrom (drop j s) j) [] (omega arith) (omega (arith, length-drop j s))) (λ _. hard-reach (length s) (at + 1) 4 at (omega arith)))
       (λ _. miss-reach (length s) (at + 1))
 
   pub currency-reach : Reach (length s) (at + 1) (currency {A = A} s at)

@@ -1,3 +1,4 @@
+pub mod Every
 pub mod Bytes
 pub mod Run
 pub mod Permitted

@@ -96,7 +96,7 @@ rest-reach : (s : List ℕ) (at : ℕ) → at ≤ length s → Reach (length s) 
 rest-reach s at h =
     let n = length s in
     and-reach n at at (marks s at) _ (marks-reach s at h) (λ c p₁ q₁.
-    and-reach n c at (must c (lineEnd s c)) _ (must-reach n c c _ (line-reach s c q₁)) (λ d p₂ q₂. reach-from n d at _ (omega arith) (lines-reach s d q₂)))
+    and-reach n c at (must c (lineEnd s c)) _ (must-reach n c c _ q₁ (line-reach s c q₁)) (λ d p₂ q₂. reach-from n d at _ (omega arith) (lines-reach s d q₂)))
 
 rest-sure : (s : List ℕ) (at : ℕ) → Sure (rest s at)
 unfolding marks
@@ -192,7 +192,8 @@ module _ (front t : List ℕ) (b : ℕ) (B : starts b ≡ true) where
   rest-agree : (at : ℕ) → at < suc M → Agrees M (suc M) false (rest S at) (rest X at)
   rest-agree at h =
       and-agree (marks-same at h) (λ c h₁.
-      and-loose N (line-agree front t b B c h₁) (must-reach N c c _ (line-reach S c (omega (arith, longer front t b B)))) (λ d _ l. lines-agree d l)
+      let l : c ≤ N = omega (arith, longer front t b B) in
+      and-loose N (line-agree front t b B c h₁) (must-reach N c c _ l (line-reach S c l)) (λ d _ l. lines-agree d l)
       (λ j p q. lines-reach S j q) (λ j. sure-and _ (sure-metadata S j) (sure-body S)))
 
   pub transaction-agree : (at : ℕ) → at < M → Agrees M (suc M) false (transaction S at) (transaction X at)

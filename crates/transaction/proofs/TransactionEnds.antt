@@ -1,4 +1,4 @@
--- Where the parts of a transaction end: at or past their start, and within the text.
+-- Where the parts of a transaction end: at or past their start, and within the text, where a refusal stands too.
 use Prim.Native.Nat.{ℕ, _+_, _≤_}
 use native.Mathlib.Omega.{arith}
 use mathlib.Core.List.{List}
@@ -54,6 +54,6 @@ module _ (s : List ℕ) where
       and-reach N at at (opening s at) _ (opening-reach at h) (λ a p₁ q₁.
       and-reach N a at (maybe a (texts s a)) _ (optional-reach N a _ q₁ (texts-reach a q₁)) (λ b p₂ q₂.
       and-reach N b at (marks s b) _ (marks-reach b q₂) (λ c p₃ q₃.
-      and-reach N c at (must c (lineEnd s c)) _ (must-reach N c c _ (line-reach s c q₃)) (λ d p₄ q₄.
+      and-reach N c at (must c (lineEnd s c)) _ (must-reach N c c _ q₃ (line-reach s c q₃)) (λ d p₄ q₄.
       and-reach N d at (metadata s d) _ (metadata-reach s d q₄) (λ e p₅ q₅.
       reach-from N e at (body s e) (omega arith) (body-reach s e q₅))))))

@@ -17,7 +17,7 @@ enum-known-l c = search (needs, content-laws)
 
 metadata-at-requires : tie.Need-metadata-at-requires
 metadata-at-requires c κs =
-    (search needs, search needs, content-within _ _ _ _ (c .before .before .l .given .1) (c .before .before .before .before .line-end .ensures) _ _ (c .before .before .before .before .before .before .c .given .1) (c .before .before .before .before .before .before .before .before .before .before .before .before .before .before .args .base) (c .before .before .before .before .before .before .before .before .before .before .before .before .before .before .args .kind) (c .before .before .before .before .before .before .before .before .before .before .before .before .before .before .args .at) (c .before .before .before .before .before .before .before .before .before .before .before .before .before .before .args .out) _ _ (c .before .before .before .before .before .before .before .before .before .before .content-at .ensures), content-room _ _ _ _ (c .before .before .l .given .1) (c .before .before .before .before .line-end .ensures) _ _ (c .before .before .before .before .before .before .c .given .1) (c .before .before .before .before .before .before .before .before .before .before .before .before .before .before .args .base) (c .before .before .before .before .before .before .before .before .before .before .before .before .before .before .args .kind) (c .before .before .before .before .before .before .before .before .before .before .before .before .before .before .args .at) (c .before .before .before .before .before .before .before .before .before .before .before .before .before .before .args .out) _ _ (c .before .before .before .before .before .before .before .before .before .before .content-at .ensures) (search needs))
+    (search needs, search needs, content-within _ _ _ _ (c .before .before .l .given .1) (c .before .before .before .before .line-end .ensures) _ _ (c .before .before .before .before .before .before .c .given .1) (c .before .before .before .before .before .before .before .before .before .before .before .before .before .before .args .base) (c .before .before .before .before .before .before .before .before .before .before .before .before .before .before .args .kind) (c .before .before .before .before .before .before .before .before .before .before .before .before .before .before .args .at) (c .before .before .before .before .before .before .before .before .before .before .before .before .before .before .args .out) _ _ (c .before .before .before .before .before .before .before .before .before .before .content-at .ensures) (search needs), content-room _ _ _ _ (c .before .before .l .given .1) (c .before .before .before .before .line-end .ensures) _ _ (c .before .before .before .before .before .before .c .given .1) (c .before .before .before .before .before .before .before .before .before .before .before .before .before .before .args .base) (c .before .before .before .before .before .before .before .before .before .before .before .before .before .before .args .kind) (c .before .before .before .before .before .before .before .before .before .before .before .before .before .before .args .at) (c .before .before .before .before .before .before .before .before .before .before .before .before .before .before .args .out) _ _ (c .before .before .before .before .before .before .before .before .before .before .content-at .ensures) (search needs) (search needs))
 
 enum-told : tie.Need-enum-told
 enum-told c = search (needs, content-laws)

@@ -1,0 +1,20 @@
+-- A property of each thing in a list: of two lists, and of another property that follows.
+use mathlib.Core.List.{List, [], _∷_, _++_}
+use Rattle.text.specs.Every.{Every}
+
+module _ {A : Type 0} (P : A → Type 0) where
+  pub every-append : (xs ys : List A) → Every P xs → Every P ys → Every P (xs ++ ys)
+  every-append [] ys p q = q
+  every-append (x ∷ xs) ys p q = (p .0, every-append xs ys (p .1) q)
+
+  pub every-left : (xs ys : List A) → Every P (xs ++ ys) → Every P xs
+  every-left [] ys h = tt
+  every-left (x ∷ xs) ys h = (h .0, every-left xs ys (h .1))
+
+  pub every-right : (xs ys : List A) → Every P (xs ++ ys) → Every P ys
+  every-right [] ys h = h
+  every-right (x ∷ xs) ys h = every-right xs ys (h .1)
+
+pub every-map : {A : Type 0} {P Q : A → Type 0} → ((x : A) → P x → Q x) → (xs : List A) → Every P xs → Every Q xs
+every-map f [] h = tt
+every-map f (x ∷ xs) h = (f x (h .0), every-map f xs (h .1))

@@ -1,0 +1,6 @@
+-- A property of each thing in a list.
+use mathlib.Core.List.{List, [], _∷_}
+
+abbrev pub Every : {A : Type 0} → (A → Type 0) → List A → Type 0
+Every P [] = Unit {0}
+Every P (x ∷ xs) = P x × Every P xs
