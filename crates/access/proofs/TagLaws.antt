@@ -1,5 +1,5 @@
 -- The answers on rows, and whether a tag is in force.
-use Prim.Native.Nat.{ℕ, zero, suc, _+_, _-_, _*_, _/_, _≤_, _<_}
+use Prim.Native.Nat.{ℕ, zero, suc, _+_, _-_, _*_, _≤_, _<_}
 use native.Mathlib.Numerals.{sub-one}
 use native.Mathlib.Omega.{arith}
 use mathlib.Core.Path.{_≡_, refl, sym, _∙_}
@@ -12,6 +12,7 @@ use Rattle.row.specs.declared.table.Row.{Row}
 use Rattle.row.specs.Field.{fieldAt}
 use Rattle.text.proofs.Steps.{drop-step}
 use Rattle.text.proofs.TestLaws.{and-right, absurd-bool}
+use Rattle.row.specs.Row.{atKind, atStart, atEnd, atLine, atP, atQ, atValue, width, room}
 use Rattle.access.specs.Spans.{goodSpan, spanText}
 use Rattle.access.specs.Tables.{rowAt, rowFound, same, names, lastNamed, inForce}
 use Rattle.access.specs.declared.tables.Force.{Force}
@@ -20,20 +21,20 @@ use Rattle.access.specs.declared.tables.Found.{Found}
 -- ---- the row with a number
 
 pub row-read : (t : List ℕ) (k : ℕ) {a b c d e f g : ℕ}
-    → a ≡ fieldAt t (k * 32) 4 → b ≡ fieldAt t (k * 32 + 4) 4 → c ≡ fieldAt t (k * 32 + 8) 4 → d ≡ fieldAt t (k * 32 + 12) 4
-    → e ≡ fieldAt t (k * 32 + 16) 4 → f ≡ fieldAt t (k * 32 + 20) 4 → g ≡ fieldAt t (k * 32 + 24) 8
+    → a ≡ fieldAt t (k * width + atKind) 4 → b ≡ fieldAt t (k * width + atStart) 4 → c ≡ fieldAt t (k * width + atEnd) 4 → d ≡ fieldAt t (k * width + atLine) 4
+    → e ≡ fieldAt t (k * width + atP) 4 → f ≡ fieldAt t (k * width + atQ) 4 → g ≡ fieldAt t (k * width + atValue) 8
     → record { kind = a; start = b; end = c; line = d; p = e; q = f; bits = g } ≡ rowAt t k
 unfolding rowAt
 row-read t k ea eb ec ed ee ef eg = rw (ea, eb, ec, ed, ee, ef, eg)
 
 module _ (t : List ℕ) (k : ℕ) where
-  pub row-there : (r : Row) → k < length t / 32 → r ≡ rowAt t k → Found.Row r ≡ rowFound t k
+  pub row-there : (r : Row) → k < room t → r ≡ rowAt t k → Found.Row r ≡ rowFound t k
   unfolding rowFound
-  row-there r h e = rw (e, lt-ltb k (length t / 32) h)
+  row-there r h e = rw (e, lt-ltb k (room t) h)
 
-  pub row-over : length t / 32 ≤ k → Found.Refusal 10 ≡ rowFound t k
+  pub row-over : room t ≤ k → Found.Refusal 10 ≡ rowFound t k
   unfolding rowFound
-  row-over h = rw (le-ltb k (length t / 32) h)
+  row-over h = rw (le-ltb k (room t) h)
 
 pub ruleset row-laws = (row-there, row-over)
 
@@ -123,19 +124,19 @@ pub ruleset last-laws = (named-none, named-here, named-before)
 module _ (s t tag : List ℕ) (k : ℕ) where
   pub force-none : k ≡ 0 → Force.Not ≡ inForce s t k tag
   unfolding inForce lastNamed
-  force-none e = rw (e, le-leb 0 (length t / 32) (omega arith))
+  force-none e = rw (e, le-leb 0 (room t) (omega arith))
 
-  pub force-over : length t / 32 < k → Force.Refusal 10 ≡ inForce s t k tag
+  pub force-over : room t < k → Force.Refusal 10 ≡ inForce s t k tag
   unfolding inForce
-  force-over h = rw (lt-leb k (length t / 32) h)
+  force-over h = rw (lt-leb k (room t) h)
 
-  module _ (h : k ≤ length t / 32) (r : ℕ) (e : r ≡ lastNamed s t tag (k - 1)) where
+  module _ (h : k ≤ room t) (r : ℕ) (e : r ≡ lastNamed s t tag (k - 1)) where
     pub force-yes : r ≡ 4 → Force.Yes ≡ inForce s t k tag
     unfolding inForce
-    force-yes f = rw (le-leb k (length t / 32) h, ← e, f)
+    force-yes f = rw (le-leb k (room t) h, ← e, f)
 
     pub force-not : (r ≡ 4 → ⊥) → Force.Not ≡ inForce s t k tag
     unfolding inForce
-    force-not f = rw (le-leb k (length t / 32) h, ← e, ne-eqb r 4 f)
+    force-not f = rw (le-leb k (room t) h, ← e, ne-eqb r 4 f)
 
 pub ruleset force-laws = (force-none, force-over, force-yes, force-not)

@@ -1,11 +1,12 @@
 -- Rows of a table: one by its number, and whether a tag is in force.
-use Prim.Native.Nat.{ℕ, zero, suc, _+_, _-_, _*_, _/_}
+use Prim.Native.Nat.{ℕ, zero, suc, _+_, _-_, _*_}
 use mathlib.Core.Bool.{Bool, true, false, cond, _&&_, _||_}
 use mathlib.Core.List.{List, [], _∷_}
 use lib.Dec.{eqb, ltb, leb}
 use lib.ListN.{length}
 use Rattle.row.specs.declared.table.Row.{Row}
 use Rattle.row.specs.Field.{fieldAt}
+use Rattle.row.specs.Row.{atKind, atStart, atEnd, atLine, atP, atQ, atValue, width, room}
 use Rattle.access.specs.declared.tables.Force.{Force}
 use Rattle.access.specs.declared.tables.Found.{Found}
 use Rattle.access.specs.Spans.{goodSpan, spanText}
@@ -15,18 +16,18 @@ use Rattle.amount.specs.Kinds.{pushtagKind, poptagKind, tagKind}
 unfoldable pub rowAt : List ℕ → ℕ → Row
 rowAt t k =
     record {
-      kind = fieldAt t (k * 32) 4;
-      start = fieldAt t (k * 32 + 4) 4;
-      end = fieldAt t (k * 32 + 8) 4;
-      line = fieldAt t (k * 32 + 12) 4;
-      p = fieldAt t (k * 32 + 16) 4;
-      q = fieldAt t (k * 32 + 20) 4;
-      bits = fieldAt t (k * 32 + 24) 8;
+      kind = fieldAt t (k * width + atKind) 4;
+      start = fieldAt t (k * width + atStart) 4;
+      end = fieldAt t (k * width + atEnd) 4;
+      line = fieldAt t (k * width + atLine) 4;
+      p = fieldAt t (k * width + atP) 4;
+      q = fieldAt t (k * width + atQ) 4;
+      bits = fieldAt t (k * width + atValue) 8;
     }
 
--- room is the table's length divided by 32: a number that is not below it is refused, 10
+-- a number that is not below the room is refused, 10
 unfoldable pub rowFound : List ℕ → ℕ → Found
-rowFound t k = cond (ltb k (length t / 32)) (Found.Row (rowAt t k)) (Found.Refusal 10)
+rowFound t k = cond (ltb k (room t)) (Found.Row (rowAt t k)) (Found.Refusal 10)
 
 -- the same bytes
 unfoldable pub same : List ℕ → List ℕ → Bool
@@ -49,4 +50,4 @@ lastNamed s t tag (suc n) = cond (names s t tag n) (rowAt t n .kind) (lastNamed 
 
 -- after the first k rows: yes if the last of the rows that do, whose next row is also among the k, is a 4; k over the room is 10
 unfoldable pub inForce : List ℕ → List ℕ → ℕ → List ℕ → Force
-inForce s t k tag = cond (leb k (length t / 32)) (cond (eqb (lastNamed s t tag (k - 1)) pushtagKind) Force.Yes Force.Not) (Force.Refusal 10)
+inForce s t k tag = cond (leb k (room t)) (cond (eqb (lastNamed s t tag (k - 1)) pushtagKind) Force.Yes Force.Not) (Force.Refusal 10)

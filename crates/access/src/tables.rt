@@ -3,9 +3,11 @@ use crate::span;
 use amount::kind;
 use row::table;
 use row::table::Row;
+use row::table::WIDTH;
 ghost use mathlib.Core.Path.{_≡_};
-ghost use Prim.Native.Nat.{_+_, _*_, _/_, _<_, _≤_};
+ghost use Prim.Native.Nat.{_+_, _*_, _≤_};
 ghost use lib.ListN.{length};
+ghost use Rattle.row.specs.Row.{width};
 ghost use Rattle.access.specs.Tables.{rowAt, rowFound, same, names, lastNamed, inForce};
 
 pub enum Found {
@@ -21,18 +23,18 @@ pub enum Force {
 
 // The row with a number, each field from its bytes.
 pub fn row_of(t: &[u8], k: usize) -> Row
-    requires { ⌜ k * 32 + 32 ≤ length (now t) ⌝ }
+    requires { ⌜ k * width + width ≤ length (now t) ⌝ }
     ensures { λ r. ⌜ r ≡ rowAt (now (t .entry)) k ⌝ }
 {
-    let at = k * 32;
+    let at = k * WIDTH;
     Row {
-        kind: table::field_at(t, at, 4),
-        start: table::field_at(t, at + 4, 4),
-        end: table::field_at(t, at + 8, 4),
-        line: table::field_at(t, at + 12, 4),
-        p: table::field_at(t, at + 16, 4),
-        q: table::field_at(t, at + 20, 4),
-        bits: table::field_at(t, at + 24, 8),
+        kind: table::field_at(t, at + table::KIND, 4),
+        start: table::field_at(t, at + table::START, 4),
+        end: table::field_at(t, at + table::END, 4),
+        line: table::field_at(t, at + table::LINE, 4),
+        p: table::field_at(t, at + table::P, 4),
+        q: table::field_at(t, at + table::Q, 4),
+        bits: table::field_at(t, at + table::VALUE, 8),
     }
 }
 
@@ -40,7 +42,7 @@ pub fn row_of(t: &[u8], k: usize) -> Row
 pub fn row(t: &[u8], k: usize) -> Found
     ensures { λ r. ⌜ r ≡ rowFound (now (t .entry)) k ⌝ }
 {
-    if k < t.len() / 32 {
+    if k < t.len() / WIDTH {
         return Found::Row(row_of(t, k));
     }
     Found::Refusal(10)
@@ -65,7 +67,7 @@ fn is_same(a: &[u8], b: &[u8]) -> bool
 
 // Whether row j is a 4 or 5 whose next row is a 23 of the tag's bytes.
 fn is_named(ledger: &[u8], t: &[u8], j: usize, tag: &[u8]) -> bool
-    requires { ⌜ j * 32 + 64 ≤ length (now t) ⌝ }
+    requires { ⌜ j * width + 2 * width ≤ length (now t) ⌝ }
     ensures { λ r. ⌜ r ≡ names (now (ledger .entry)) (now (t .entry)) (now (tag .entry)) j ⌝ }
 {
     let this = row_of(t, j);
@@ -85,7 +87,7 @@ fn is_named(ledger: &[u8], t: &[u8], j: usize, tag: &[u8]) -> bool
 
 // The kind of the last of the first n rows that names the tag, with its next row; 0 for none.
 fn last_named(ledger: &[u8], t: &[u8], n: usize, tag: &[u8]) -> usize
-    requires { ⌜ n * 32 + 32 ≤ length (now t) ⌝ }
+    requires { ⌜ n * width + width ≤ length (now t) ⌝ }
     ensures { λ r. ⌜ r ≡ lastNamed (now (ledger .entry)) (now (t .entry)) (now (tag .entry)) n ⌝ }
 {
     let mut j = n;
@@ -106,7 +108,7 @@ pub fn tag_in_force(ledger: &[u8], t: &[u8], k: usize, tag: &[u8]) -> Force
     if k == 0 {
         return Force::Not;
     }
-    if t.len() / 32 < k {
+    if t.len() / WIDTH < k {
         return Force::Refusal(10);
     }
     if last_named(ledger, t, k - 1, tag) == kind::PUSHTAG {

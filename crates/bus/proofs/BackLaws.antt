@@ -1,5 +1,5 @@
 -- What is written reads back.
-use Prim.Native.Nat.{ℕ, zero, suc, _+_, _*_, _-_, _/_, _≤_, _<_}
+use Prim.Native.Nat.{ℕ, zero, suc, _+_, _*_, _-_, _≤_, _<_}
 use native.Mathlib.Omega.{arith}
 use mathlib.Core.Path.{_≡_, refl, sym, _∙_, ap}
 use mathlib.Core.Bool.{Bool, true, false, cond}
@@ -18,9 +18,9 @@ use Rattle.bus.specs.Fields.{field, isEntry, rowTag, rowField, textPlace
 use Rattle.bus.specs.Reading.{fieldFault, isRow, rowIn, textIn, textFound, found, handed}
 use Rattle.bus.specs.Writing.{rowOf, textOf, fault, rowFields, faults, packet, refusing, written}
 use Rattle.bus.specs.Back.{all, front, heldFrom, itemOf, items, ReadsBack}
-use Rattle.row.specs.Row.{width}
+use Rattle.row.specs.Row.{width, room}
 use Rattle.bus.proofs.FieldLaws.{field-length, field-tag, field-content, field-behind, field-stated, field-whole}
-use Rattle.bus.proofs.RowLaws.{text-short, fields-entry, fields-detail, row-32, length-entry, length-detail, row-wide}
+use Rattle.bus.proofs.RowLaws.{text-short, fields-entry, fields-detail, row-whole, length-entry, length-detail, row-wide}
 
 -- ---- a row's field at the front, and what stands behind it
 
@@ -32,7 +32,7 @@ module _ (u rest : List ℕ) (h : width ≤ length u) (tag : ℕ) where
   r = field tag row ++ rest
 
   r-long : length r ≡ rowField + length rest
-  r-long = omega (arith, field-length tag row rest, row-32 u h)
+  r-long = omega (arith, field-length tag row rest, row-whole u h)
 
   kind-read : fieldAt r headWidth 4 ≡ rowOf u .kind
   unfolding rowAt
@@ -42,7 +42,7 @@ module _ (u rest : List ℕ) (h : width ≤ length u) (tag : ℕ) where
         le-leb headWidth (length r) (omega (arith, r-long)),
         le-leb 4 (length r - headWidth) (omega (arith, r-long)),
         field-content tag row rest,
-        take-append-le 4 row rest (omega (arith, row-32 u h)),
+        take-append-le 4 row rest (omega (arith, row-whole u h)),
         take-take 4 width u (omega arith),
       )
       (sym k)
@@ -51,8 +51,8 @@ module _ (u rest : List ℕ) (h : width ≤ length u) (tag : ℕ) where
   unfolding isRow
   is-row e =
       rw (
-        field-stated tag row rest (omega (arith, row-32 u h)),
-        row-32 u h,
+        field-stated tag row rest (omega (arith, row-whole u h)),
+        row-whole u h,
         kind-read,
         field-tag tag row rest,
         eq-eqb tag (rowTag (rowOf u .kind)) e,
@@ -63,17 +63,17 @@ module _ (u rest : List ℕ) (h : width ≤ length u) (tag : ℕ) where
   row-found e =
       rw (
         ne-eqb (length r) 0 (λ z. omega (arith, r-long)),
-        field-whole tag row rest (omega (arith, row-32 u h)),
+        field-whole tag row rest (omega (arith, row-whole u h)),
         is-row e,
         kind-read,
-        field-behind tag row rest width (row-32 u h),
+        field-behind tag row rest width (row-whole u h),
       )
 
   row-back : rowIn r ≡ row
-  row-back = rw (field-content tag row rest) (take-at row rest width (row-32 u h))
+  row-back = rw (field-content tag row rest) (take-at row rest width (row-whole u h))
 
   behind-row : (n : ℕ) → drop (rowField + n) r ≡ drop n rest
-  behind-row n = sym (drop-drop n rowField r) ∙ ap (drop n) (field-behind tag row rest width (row-32 u h))
+  behind-row n = sym (drop-drop n rowField r) ∙ ap (drop n) (field-behind tag row rest width (row-whole u h))
 
 -- ---- its text
 
@@ -175,12 +175,12 @@ accepted s t n room m e = go (eqb (refusing s n t) 0) refl _ e
     go true q w e = eqb-true (refusing s n t) 0 q
     go false q w e = absurd (let z : _≡_ {A = ℕ} 0 1 = cc in omega arith)
 
-sound-rows : (s t : List ℕ) (n : ℕ) → refusing s n t ≡ 0 → (n ≤ length t / width) × (faults s n t ≡ 0)
+sound-rows : (s t : List ℕ) (n : ℕ) → refusing s n t ≡ 0 → (n ≤ room t) × (faults s n t ≡ 0)
 unfolding refusing
-sound-rows s t n e = go (leb n (length t / width)) refl e
+sound-rows s t n e = go (leb n (room t)) refl e
   where
-    go : (b : Bool) → leb n (length t / width) ≡ b → cond b (faults s n t) notValid ≡ 0 → (n ≤ length t / width) × (faults s n t ≡ 0)
-    go true q e = (leb-true n (length t / width) q, e)
+    go : (b : Bool) → leb n (room t) ≡ b → cond b (faults s n t) notValid ≡ 0 → (n ≤ room t) × (faults s n t ≡ 0)
+    go true q e = (leb-true n (room t) q, e)
     go false q e = absurd (omega arith)
 
 pub reads-back : ReadsBack

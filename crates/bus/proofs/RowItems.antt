@@ -10,6 +10,7 @@ use Rattle.row.specs.declared.table.Row.{Row}
 use Rattle.row.specs.Field.{fieldAt}
 use Rattle.row.specs.Row.{rowBytes, rowsBytes, width}
 use Rattle.row.proofs.PourLaws.{length-rowBytes}
+use Rattle.row.specs.Pouring.{bytesOf}
 use Rattle.access.specs.Tables.{rowAt}
 use Rattle.bus.specs.Writing.{textOf}
 use Rattle.bus.specs.Back.{itemOf, items}
@@ -39,7 +40,7 @@ item-front s x rest h =
     )
 
 pub items-rows : (s : List ℕ) (rows : List Row) (rest : List ℕ) → items s (length rows) (rowsBytes rows ++ rest) ≡ map (λ row. itemOf s (rowBytes row)) rows
-unfolding items rowsBytes
+unfolding items bytesOf
 items-rows s [] rest = refl
 items-rows s (r ∷ rows) rest =
     rw (

@@ -53,15 +53,15 @@ module _ (s u : List ℕ) where
   unfolding rowFields
   fields-detail e = rw e
 
-pub row-32 : (u : List ℕ) → width ≤ length u → length (take width u) ≡ width
-row-32 u h = length-take-le width u h
+pub row-whole : (u : List ℕ) → width ≤ length u → length (take width u) ≡ width
+row-whole u h = length-take-le width u h
 
 module _ (s u : List ℕ) (hu : width ≤ length u) where
   pub length-entry : isEntry (rowOf u .kind) ≡ true → length (rowFields s u) ≡ rowField
-  length-entry e = rw (fields-entry s u e, length-field, row-32 u hu)
+  length-entry e = rw (fields-entry s u e, length-field, row-whole u hu)
 
   pub length-detail : isEntry (rowOf u .kind) ≡ false → length (rowFields s u) ≡ textPlace + length (textOf s (rowOf u))
-  length-detail e = rw (fields-detail s u e, length-append, length-field, length-field, row-32 u hu) (omega arith)
+  length-detail e = rw (fields-detail s u e, length-append, length-field, length-field, row-whole u hu) (omega arith)
 
   pub row-wide : rowField ≤ length (rowFields s u)
   row-wide = go (isEntry (rowOf u .kind)) refl
@@ -108,7 +108,7 @@ module _ (s u : List ℕ) (hu : width ≤ length u) where
     -- ---- the row is put
 
     pub entry-place : r .kind < firstDetail → (p at : ℕ) → p ≡ at + headWidth + length (take width u) → p ≡ at + length (rowFields s u)
-    entry-place h p at e = omega (arith, length-entry (is-entry h), row-32 u hu)
+    entry-place h p at e = omega (arith, length-entry (is-entry h), row-whole u hu)
 
     pub entry-put : r .kind < firstDetail → (at : ℕ) (b v : List ℕ) → v ≡ sets b at (field entryTag (take width u)) → v ≡ sets b at (rowFields s u)
     entry-put h at b v ev = ev ∙ ap (sets b at) (sym (fields-entry s u (is-entry h)))
@@ -121,10 +121,10 @@ module _ (s u : List ℕ) (hu : width ≤ length u) where
       text-room b v f ev =
           let l = f .room in
           let k : length v ≡ length b = ap length ev ∙ length-sets b at (field detailTag (take width u)) in
-          (omega (arith, text-length, text-short s (rowOf u) (is-detail h) (f .sound)), omega (arith, text-length, length-detail (is-detail h), row-32 u hu))
+          (omega (arith, text-length, text-short s (rowOf u) (is-detail h) (f .sound)), omega (arith, text-length, length-detail (is-detail h), row-whole u hu))
 
       pub detail-place : (p : ℕ) → p ≡ next + headWidth + length c → p ≡ at + length (rowFields s u)
-      detail-place p e = omega (arith, text-length, length-detail (is-detail h), row-32 u hu)
+      detail-place p e = omega (arith, text-length, length-detail (is-detail h), row-whole u hu)
 
       pub detail-put : (b v w : List ℕ) → v ≡ sets b at (field detailTag (take width u)) → w ≡ sets v next (field textTag c) → w ≡ sets b at (rowFields s u)
       detail-put b v w ev ew =
@@ -133,7 +133,7 @@ module _ (s u : List ℕ) (hu : width ≤ length u) where
 
 -- the row itself has room
 pub row-room : (s u : List ℕ) (at n : ℕ) → RowFits s u at n → (length (take width u) ≤ longest) × (at + headWidth + length (take width u) ≤ n)
-row-room s u at n f = let l = f .room in let w = row-32 u (f .there) in (omega arith, omega (arith, row-wide s u (f .there)))
+row-room s u at n f = let l = f .room in let w = row-whole u (f .there) in (omega arith, omega (arith, row-wide s u (f .there)))
 
 pub ruleset measured-laws = (measured-entry, measured-bad, measured-long, measured-detail)
 

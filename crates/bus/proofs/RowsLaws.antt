@@ -47,8 +47,8 @@ module _ (s t : List ℕ) (left i : ℕ) (h : 0 < left) (m : i + left * width �
   u-is : u ≡ drop i t
   u-is = rest-of t i
 
-  pub rest-32 : width ≤ length u
-  rest-32 = rw (u-is, length-drop) (omega arith)
+  pub rest-whole : width ≤ length u
+  rest-whole = rw (u-is, length-drop) (omega arith)
 
   pub rest-fits : length t < 2 ^ 64 → Fits w64 (i + width)
   rest-fits l = record { fits = omega arith }
@@ -109,7 +109,7 @@ measure-end s u left total r h l e =
 pub capped : (a b k : ℕ) → k ≡ min (a + b) largest → k ≤ largest
 capped a b k e = omega arith
 
-pub ruleset measure-laws = (rest-32, rest-fits, rest-inside, measure-fault, measure-on, measure-end, capped)
+pub ruleset measure-laws = (rest-whole, rest-fits, rest-inside, measure-fault, measure-on, measure-end, capped)
 
 -- ---- putting row by row: b is the buffer now, b₀ what it was, and the next row goes to place `at`
 
@@ -149,7 +149,7 @@ module _ (s t b₀ b : List ℕ) (n left i at : ℕ) (p : Putting s t b₀ n b l
         let l = p .room in
         let k = p .same in
         record {
-          there = rest-32 s t left i h (p .inside);
+          there = rest-whole s t left i h (p .inside);
           sound = ap (λ (j : List ℕ). fault s (rowOf j)) (u-is s t left i h (p .inside)) ∙ none-here;
           room = omega (arith, packet-length s t left i h (p .inside));
         }

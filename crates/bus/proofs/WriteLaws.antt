@@ -1,5 +1,5 @@
 -- Writing a packet: the call's answer and its buffer, from what the code knows.
-use Prim.Native.Nat.{ℕ, _*_, _/_, _≤_, _<_, _^_, min}
+use Prim.Native.Nat.{ℕ, _*_, _≤_, _<_, _^_, min}
 use native.Mathlib.Nat.{zero-add}
 use native.Mathlib.Omega.{arith}
 use mathlib.Core.Path.{_≡_, sym, _∙_}
@@ -16,7 +16,7 @@ use Rattle.bus.specs.Refusals.{tooShort, notValid}
 use Rattle.bus.specs.Writing.{faults, packet, refusing, written, writtenLeft, largest}
 use Rattle.bus.specs.steps.Measuring.{measuredBy, measuredFrom}
 use Rattle.bus.specs.steps.Putting.{RowsFit}
-use Rattle.row.specs.Row.{width}
+use Rattle.row.specs.Row.{room}
 use Rattle.bus.proofs.RowsLaws.{by-fault, by-bytes}
 
 module _ (s t b : List ℕ) (n : ℕ) where
@@ -24,18 +24,18 @@ module _ (s t b : List ℕ) (n : ℕ) where
   unfolding written
   answer-short k z e l = rw (z, lt-leb (length (packet s n t)) (length b) (omega (arith, e)), e)
 
-  pub many-answer : length t / width < n → Written.Refusal notValid 0 ≡ written s n t (length b)
+  pub many-answer : room t < n → Written.Refusal notValid 0 ≡ written s n t (length b)
   unfolding written refusing
-  many-answer h = rw (lt-leb n (length t / width) h)
+  many-answer h = rw (lt-leb n (room t) h)
 
-  pub many-left : length t / width < n → b ≡ writtenLeft s n t b
+  pub many-left : room t < n → b ≡ writtenLeft s n t b
   unfolding writtenLeft refusing
-  many-left h = rw (lt-leb n (length t / width) h)
+  many-left h = rw (lt-leb n (room t) h)
 
-  module _ (h : n ≤ length t / width) (m : Measured) (em : m ≡ measuredFrom s n t 0) where
+  module _ (h : n ≤ room t) (m : Measured) (em : m ≡ measuredFrom s n t 0) where
     refused-by : refusing s n t ≡ faults s n t
     unfolding refusing
-    refused-by = rw (le-leb n (length t / width) h)
+    refused-by = rw (le-leb n (room t) h)
 
     was-all : m ≡ measuredBy (faults s n t) (min (length (packet s n t)) largest)
     unfolding measuredFrom

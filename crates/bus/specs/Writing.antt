@@ -1,12 +1,12 @@
 -- Writing a packet from the first rows of a table: each row as a field, each detail row followed by the text of its
 -- span.
-use Prim.Native.Nat.{ℕ, zero, suc, _/_, min}
+use Prim.Native.Nat.{ℕ, zero, suc, min}
 use mathlib.Core.Bool.{cond}
 use mathlib.Core.List.{List, [], _++_}
 use lib.Dec.{eqb, leb}
 use lib.ListN.{length, take, drop}
 use Rattle.row.specs.declared.table.Row.{Row}
-use Rattle.row.specs.Row.{width}
+use Rattle.row.specs.Row.{width, room}
 use Rattle.access.specs.Spans.{goodSpan, spanText}
 use Rattle.access.specs.Tables.{rowAt}
 use Rattle.access.specs.declared.written.Written.{Written}
@@ -48,7 +48,7 @@ largest = 18446744073709551615
 
 -- 10 for a row count over the table, before any row is looked at
 unfoldable pub refusing : List ℕ → ℕ → List ℕ → ℕ
-refusing s n t = cond (leb n (length t / width)) (faults s n t) notValid
+refusing s n t = cond (leb n (room t)) (faults s n t) notValid
 
 -- the answer, of a buffer with so much room: 9, with the need, comes last
 unfoldable pub written : List ℕ → ℕ → List ℕ → ℕ → Written

@@ -1,6 +1,6 @@
 -- The call on a ledger's own rows does what recovering reading of the new ledger does; and so for any sequence of
 -- calls.
-use Prim.Native.Nat.{ℕ, _+_, _*_, _-_, _/_, _≤_}
+use Prim.Native.Nat.{ℕ, _+_, _*_, _-_, _≤_}
 use native.Mathlib.Omega.{arith}
 use mathlib.Core.Path.{_≡_, refl, sym, _∙_, ap}
 use mathlib.Core.Bool.{Bool, true, false, cond, _||_, _&&_}
@@ -12,7 +12,7 @@ use lib.Seq.{length-take-le, take-at}
 use Rattle.text.proofs.TestLaws.{and-left, and-right}
 use Rattle.text.specs.Permitted.{sizeLimit}
 use Rattle.row.specs.declared.table.Row.{Row}
-use Rattle.row.specs.Row.{width, rowsBytes, rowsIn}
+use Rattle.row.specs.Row.{width, rowsBytes, rowsIn, room}
 use Rattle.ledger.specs.Plain.{Reading, accepted, denied}
 use Rattle.ledger.specs.Answers.{answer, left}
 use Rattle.ledger.specs.declared.read.Answer.{Answer}
@@ -44,7 +44,7 @@ module _ (s : List ℕ) (k : ℕ) (u : List ℕ) (a e : ℕ) (y : List ℕ) (R :
   abbrev E : List Row
   E = editRows s a e y (rowsIn k u)
 
-  enough : k ≤ length u / width
+  enough : k ≤ room u
   enough = omega (arith, R .count, rw length-take at (ap length (R .bytes)), length-rowsBytes (R .rows))
 
   not-large : grows s a e y ≡ false
@@ -56,7 +56,7 @@ module _ (s : List ℕ) (k : ℕ) (u : List ℕ) (a e : ℕ) (y : List ℕ) (R :
 
   editing-is : editing s u k a e y ≡ accepted E
   unfolding editing
-  editing-is = rw (le-ltb sizeLimit (length s) (g .size), not-large, g .block, le-leb k (length u / width) enough, g .bytes)
+  editing-is = rw (le-ltb sizeLimit (length s) (g .size), not-large, g .block, le-leb k (room u) enough, g .bytes)
 
   given-rows : rowsIn k u ≡ map wrapped old
   given-rows =
@@ -97,7 +97,7 @@ module _ (s : List ℕ) (k : ℕ) (u : List ℕ) (a e : ℕ) (y : List ℕ) wher
   not-denied : (m p : ℕ) (rs : List Row) → denied m p ≡ accepted rs → Edit s a e y
   not-denied m p rs q = absurd (let w : _≡_ {A = ℕ} 0 1 = cc in omega arith)
 
-  from-tests : (o g b : Bool) → ltb sizeLimit (length s) ≡ o → grows s a e y ≡ g → (isBlock s a e && (leb k (length u / width) && isNew s a e y)) ≡ b
+  from-tests : (o g b : Bool) → ltb sizeLimit (length s) ≡ o → grows s a e y ≡ g → (isBlock s a e && (leb k (room u) && isNew s a e y)) ≡ b
       → (w : Reading) (rs : List Row) → cond (o || g) (denied 1 0) (cond b w (denied 10 0)) ≡ accepted rs → Edit s a e y
   unfolding grows
   from-tests true g b eo eg eb w rs q = not-denied 1 0 rs q
@@ -109,7 +109,7 @@ module _ (s : List ℕ) (k : ℕ) (u : List ℕ) (a e : ℕ) (y : List ℕ) wher
       let size : length s - (e - a) + length y ≤ sizeLimit = ltb-false sizeLimit (length s - (e - a) + length y) (rw (le-leb a e (c .0), le-leb e (length s) (c .1)) at eg) in
       record {
         block = block;
-        bytes = and-right (leb k (length u / width)) _ (and-right (isBlock s a e) _ eb);
+        bytes = and-right (leb k (room u)) _ (and-right (isBlock s a e) _ eb);
         size = ltb-false sizeLimit (length s) eo;
         newSize = omega (arith, new-length s a e y (c .0) (c .1));
       }
@@ -121,10 +121,10 @@ module _ (s : List ℕ) (k : ℕ) (u : List ℕ) (a e : ℕ) (y : List ℕ) wher
 -- ---- any sequence of calls
 
 -- a table that recovering reading has left, with its n rows
-pub rows-of : (z : List ℕ) (n : ℕ) (t v : List ℕ) (rs : List Row) → recovered z ≡ accepted rs → answer (accepted rs) (length t / width) ≡ Answer.Rows n
+pub rows-of : (z : List ℕ) (n : ℕ) (t v : List ℕ) (rs : List Row) → recovered z ≡ accepted rs → answer (accepted rs) (room t) ≡ Answer.Rows n
     → v ≡ left (accepted rs) t → RowsOf z n v
 unfolding answer left
-rows-of z n t v rs is e ev = go (leb (length rs) (length t / width)) e ev
+rows-of z n t v rs is e ev = go (leb (length rs) (room t)) e ev
   where
     go : (b : Bool) → cond b (Answer.Rows (length rs)) (Answer.Refusal 9 0 (length rs)) ≡ Answer.Rows n
         → v ≡ cond b (rowsBytes rs ++ drop (length rs * width) t) t → RowsOf z n v
@@ -140,13 +140,13 @@ rows-of z n t v rs is e ev = go (leb (length rs) (length t / width)) e ev
 
 -- so the table that a call leaves has the new ledger's rows
 rows-left : (s : List ℕ) (k : ℕ) (u : List ℕ) (a e : ℕ) (y t : List ℕ) (n : ℕ) → RowsOf s k u
-    → answer (editing s u k a e y) (length t / width) ≡ Answer.Rows n → RowsOf (edited s a e y) n (left (editing s u k a e y) t)
+    → answer (editing s u k a e y) (room t) ≡ Answer.Rows n → RowsOf (edited s a e y) n (left (editing s u k a e y) t)
 rows-left s k u a e y t n R q =
-    let some = some-rows (editing s u k a e y) (length t / width) n q in
+    let some = some-rows (editing s u k a e y) (room t) n q in
     let g = is-edit s k u a e y (some .0) (some .1) in
     let is = recovered-is Plain (edited s a e y) (g .newSize) in
     rows-of (edited s a e y) n t (left (editing s u k a e y) t) (recoverFrom (length (edited s a e y)) 0 0 (edited s a e y)) is
-    (sym (ap (λ (r : Reading). answer r (length t / width)) is) ∙ sym (same-answer s k u a e y R g (length t / width)) ∙ q)
+    (sym (ap (λ (r : Reading). answer r (room t)) is) ∙ sym (same-answer s k u a e y R g (room t)) ∙ q)
     (same-left s k u a e y R g t ∙ ap (λ (r : Reading). left r t) is)
 
 pub all-afresh : AllAfresh

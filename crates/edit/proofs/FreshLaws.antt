@@ -1,5 +1,5 @@
 -- The rows of the new bytes: counted, and put at their place.
-use Prim.Native.Nat.{ℕ, _+_, _*_, _-_, _/_, _≤_}
+use Prim.Native.Nat.{ℕ, _+_, _*_, _-_, _≤_}
 use native.Mathlib.Nat.{add-zero}
 use native.Mathlib.Omega.{arith}
 use mathlib.Core.Path.{_≡_, refl, sym, _∙_, ap}
@@ -11,7 +11,7 @@ use lib.ListN.{length, drop, length-map}
 use lib.Seq.{drop-at}
 use Rattle.text.specs.Permitted.{sizeLimit}
 use Rattle.row.specs.declared.table.Row.{Row}
-use Rattle.row.specs.Row.{width, rowBytes, rowsBytes, rowIn, feeds, pour}
+use Rattle.row.specs.Row.{width, rowBytes, rowsBytes, rowIn, feeds, pour, room}
 use Rattle.row.proofs.PourLaws.{length-rowBytes, length-pour, pour-all}
 use Rattle.ledger.specs.Plain.{Reading, accepted, denied}
 use Rattle.ledger.specs.Answers.{answer, left}
@@ -24,6 +24,7 @@ use Rattle.edit.specs.declared.moves.By.{By}
 use Rattle.edit.specs.steps.Moving.{Small, shiftBy, movedIn, by, Fresh}
 use Rattle.edit.proofs.MoveLaws.{moveAll, recover-all}
 use Rattle.row.proofs.ReadBack.{wrapped, row-in}
+use Rattle.row.specs.Pouring.{bytesOf}
 use Rattle.edit.proofs.RowBytes.{all-shifted}
 
 module _ (y : List ℕ) (h : length y ≤ sizeLimit) where
@@ -75,7 +76,7 @@ module _ (y : List ℕ) (h : length y ≤ sizeLimit) where
 pub ruleset count-laws = (count-rows, count-need, rows-low, need-low)
 
 moved-rows : (b : By) (xs : List Row) (rest : List ℕ) → movedIn b (length xs) (rowsBytes xs ++ rest) ≡ rowsBytes (map (shiftBy b) (map wrapped xs)) ++ rest
-unfolding movedIn rowsBytes
+unfolding movedIn bytesOf
 moved-rows b [] rest = refl
 moved-rows b (r ∷ xs) rest =
     let x = rowsBytes xs ++ rest in
@@ -95,10 +96,10 @@ module _ (y : List ℕ) (n base lines : ℕ) (z : List ℕ) (F : Fresh y n base 
   left-long v ev = ap length ev ∙ go (recovered y) refl
     where
       go : (r : Reading) → recovered y ≡ r → length (left r z) ≡ length z
-      go (accepted xs) e = many (leb (length xs) (length z / width)) refl
+      go (accepted xs) e = many (leb (length xs) (room z)) refl
         where
-          many : (b : Bool) → leb (length xs) (length z / width) ≡ b → length (cond b (rowsBytes xs ++ drop (length xs * width) z) z) ≡ length z
-          many true q = ap length (sym (pour-all xs z (omega (arith, leb-true (length xs) (length z / width) q)))) ∙ length-pour xs z
+          many : (b : Bool) → leb (length xs) (room z) ≡ b → length (cond b (rowsBytes xs ++ drop (length xs * width) z) z) ≡ length z
+          many true q = ap length (sym (pour-all xs z (omega (arith, leb-true (length xs) (room z) q)))) ∙ length-pour xs z
           many false q = refl
       go (denied k p) e = refl
 
@@ -111,7 +112,7 @@ module _ (y : List ℕ) (n base lines : ℕ) (z : List ℕ) (F : Fresh y n base 
       let xs = recoverFrom (length y) 0 0 y in
       let zs = recoverFrom (length y) base lines y in
       let rest = drop (length xs * width) z in
-      let q : v ≡ rowsBytes xs ++ rest = ev ∙ rw (recovered-is Plain y (F .size), le-leb (length xs) (length z / width) (omega (arith, F .count, F .room))) in
+      let q : v ≡ rowsBytes xs ++ rest = ev ∙ rw (recovered-is Plain y (F .size), le-leb (length xs) (room z) (omega (arith, F .count, F .room))) in
       let w : length zs ≡ length xs = length-at y (F .size) base lines in
       eu
       ∙ ap (λ (i : ℕ). movedIn (by base lines) i v) (F .count)

@@ -1,5 +1,5 @@
 -- What the answer is made of, and that it is what the call is to answer.
-use Prim.Native.Nat.{ℕ, zero, suc, _+_, _*_, _-_, _/_, _≤_, _<_}
+use Prim.Native.Nat.{ℕ, zero, suc, _+_, _*_, _-_, _≤_, _<_}
 use native.Mathlib.Omega.{arith}
 use mathlib.Core.Path.{_≡_, refl, sym, _∙_, ap}
 use mathlib.Core.Bool.{Bool, true, false, cond}
@@ -8,7 +8,7 @@ use borrow.Author.Tests.{le-leb, lt-leb}
 use lib.Dec.{eqb, ltb, leb}
 use lib.ListN.{length, take, drop, length-take}
 use Rattle.row.specs.declared.table.Row.{Row}
-use Rattle.row.specs.Row.{width, rowIn, rowsIn, feeds, pour}
+use Rattle.row.specs.Row.{width, rowIn, rowsIn, feeds, pour, room}
 use Rattle.row.proofs.PourLaws.{pour-all}
 use Rattle.row.proofs.LineLaws.{feeds-le}
 use Rattle.ledger.specs.Plain.{accepted}
@@ -129,11 +129,11 @@ module _ (s t : List ℕ) (k a e : ℕ) (y : List ℕ) where
         rows-are : editing s t k a e y ≡ accepted E
         rows-are = good-from s t k a e y f ef z .rows
 
-        module _ (h : length u / width < c .before + c .new + c .behind) where
-          short : leb (length E) (length u / width) ≡ false
-          short = lt-leb (length E) (length u / width) (omega (arith, count-is))
+        module _ (h : room u < c .before + c .new + c .behind) where
+          short : leb (length E) (room u) ≡ false
+          short = lt-leb (length E) (room u) (omega (arith, count-is))
 
-          pub short-answer : Answer.Refusal 9 0 (c .before + c .new + c .behind) ≡ answer (editing s t k a e y) (length u / width)
+          pub short-answer : Answer.Refusal 9 0 (c .before + c .new + c .behind) ≡ answer (editing s t k a e y) (room u)
           unfolding answer
           short-answer = ap (Answer.Refusal 9 0) count-is ∙ rw (rows-are, short)
 
@@ -141,14 +141,14 @@ module _ (s t : List ℕ) (k a e : ℕ) (y : List ℕ) where
           unfolding left
           short-left = rw (rows-are, short)
 
-        module _ (h : c .before + c .new + c .behind ≤ length u / width) where
-          full : leb (length E) (length u / width) ≡ true
-          full = le-leb (length E) (length u / width) (omega (arith, count-is))
+        module _ (h : c .before + c .new + c .behind ≤ room u) where
+          full : leb (length E) (room u) ≡ true
+          full = le-leb (length E) (room u) (omega (arith, count-is))
 
           pub full-room : (c .before + c .new + c .behind) * width ≤ length u
           full-room = omega arith
 
-          pub full-answer : Answer.Rows (c .before + c .new + c .behind) ≡ answer (editing s t k a e y) (length u / width)
+          pub full-answer : Answer.Rows (c .before + c .new + c .behind) ≡ answer (editing s t k a e y) (room u)
           unfolding answer
           full-answer = ap Answer.Rows count-is ∙ rw (rows-are, full)
 

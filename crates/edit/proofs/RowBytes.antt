@@ -12,10 +12,11 @@ use Rattle.text.specs.Every.{Every}
 use Rattle.amount.proofs.RowCounts.{refusalKind}
 use Rattle.row.specs.declared.table.Row.{Row}
 use Rattle.row.specs.Field.{le, un}
-use Rattle.row.specs.Row.{width, rowBytes, rowsBytes, rowIn, rowsIn}
+use Rattle.row.specs.Row.{atKind, atStart, atEnd, atLine, atP, atQ, atValue, fieldsWidth, fieldBytes, fieldsIn, width, rowBytes, rowsBytes, rowIn, rowsIn}
 use Rattle.row.specs.Details.{spanned}
 use Rattle.row.proofs.FieldLaws.{length-le, un-le, le-un}
 use Rattle.row.proofs.ReadBack.{wrapped, rows-front}
+use Rattle.row.specs.Pouring.{bytesOf}
 use Rattle.entry.proofs.EntryLines.{OnLine}
 use Rattle.edit.specs.Edits.{fieldLimit, moveOn, shift}
 use Rattle.edit.specs.Afresh.{KeepsBytes}
@@ -39,7 +40,7 @@ le-same k x = subst (λ (n : ℕ). le n (un (le k x)) ≡ le k x) (length-le k x
 
 bytes-same : (r u : Row) → le 4 (r .kind) ≡ le 4 (u .kind) → le 4 (r .start) ≡ le 4 (u .start) → le 4 (r .end) ≡ le 4 (u .end) → le 4 (r .line) ≡ le 4 (u .line)
     → le 4 (r .p) ≡ le 4 (u .p) → le 4 (r .q) ≡ le 4 (u .q) → le 8 (r .bits) ≡ le 8 (u .bits) → rowBytes r ≡ rowBytes u
-unfolding rowBytes
+unfolding rowBytes fieldBytes
 bytes-same r u k s e l p q b = both k (both s (both e (both l (both p (both q b)))))
 
 wrapped-bytes : (r : Row) → rowBytes (wrapped r) ≡ rowBytes r
@@ -48,7 +49,7 @@ wrapped-bytes r =
     bytes-same (wrapped r) r (le-same 4 (r .kind)) (le-same 4 (r .start)) (le-same 4 (r .end)) (le-same 4 (r .line)) (le-same 4 (r .p)) (le-same 4 (r .q)) (le-same 8 (r .bits))
 
 pub all-wrapped : (rs : List Row) → rowsBytes (map wrapped rs) ≡ rowsBytes rs
-unfolding rowsBytes
+unfolding bytesOf
 all-wrapped [] = refl
 all-wrapped (r ∷ rs) = rw (wrapped-bytes r, all-wrapped rs)
 
@@ -90,7 +91,7 @@ module _ (a b d l m j : ℕ) (hd : (a + d) % fieldLimit ≡ b % fieldLimit) (hj 
 
   pub all-shifted : (c k : ℕ) (t : List ℕ) (rs : List Row) → Every (OnLine (suc refusalKind) c k t) rs
       → rowsBytes (map (shift d j) (map wrapped (map (moveAll a l) rs))) ≡ rowsBytes (map (moveAll b m) rs)
-  unfolding rowsBytes
+  unfolding bytesOf
   all-shifted c k t [] e = refl
   all-shifted c k t (r ∷ rs) (e, es) = rw (shift-bytes r (e .kind), all-shifted c k t rs es)
 
@@ -117,15 +118,19 @@ module _ (b : List ℕ) (l : width ≤ length b) (h : (i : ℕ) → getD b i 0 <
   then i m n v g e =
       both (field-kept m i g) e ∙ ap (λ (z : List ℕ). take m (drop i b) ++ take n z) (sym (drop-drop m i b)) ∙ sym (take-add m n (drop i b))
 
+  fields-kept : fieldBytes (fieldsIn b) ≡ take fieldsWidth b
+  unfolding fieldBytes fieldsIn
+  fields-kept =
+      then atKind 4 (fieldsWidth - atStart) _ (omega arith)
+      (then atStart 4 (fieldsWidth - atEnd) _ (omega arith)
+      (then atEnd 4 (fieldsWidth - atLine) _ (omega arith)
+      (then atLine 4 (fieldsWidth - atP) _ (omega arith)
+      (then atP 4 (fieldsWidth - atQ) _ (omega arith)
+      (then atQ 4 (fieldsWidth - atValue) _ (omega arith) (field-kept 8 atValue (omega arith)))))))
+
   row-kept : rowBytes (rowIn b) ≡ take width b
   unfolding rowBytes rowIn
-  row-kept =
-      then 0 4 28 _ (omega arith)
-      (then 4 4 24 _ (omega arith)
-      (then 8 4 20 _ (omega arith)
-      (then 12 4 16 _ (omega arith)
-      (then 16 4 12 _ (omega arith)
-      (then 20 4 8 _ (omega arith) (field-kept 8 24 (omega arith)))))))
+  row-kept = fields-kept
 
 pub keeps-bytes : KeepsBytes
 keeps-bytes b l h = row-kept b l h

@@ -1,13 +1,13 @@
 -- M-109's claims: given the old ledger's rows, an edit does what recovering reading of the new ledger does, and so does
 -- any sequence of edits. Rows before the block keep their bytes.
-use Prim.Native.Nat.{ℕ, _*_, _/_, _<_, _≤_}
+use Prim.Native.Nat.{ℕ, _*_, _<_, _≤_}
 use mathlib.Core.Path.{_≡_}
 use mathlib.Core.Bool.{true}
 use mathlib.Core.List.{List, [], _∷_}
 use lib.ListN.{length, getD, take}
 use Rattle.text.specs.Permitted.{sizeLimit}
 use Rattle.row.specs.declared.table.Row.{Row}
-use Rattle.row.specs.Row.{width, rowBytes, rowsBytes, rowIn, rowsIn}
+use Rattle.row.specs.Row.{width, rowBytes, rowsBytes, rowIn, rowsIn, room}
 use Rattle.ledger.specs.Plain.{accepted}
 use Rattle.ledger.specs.Answers.{answer, left}
 use Rattle.ledger.specs.declared.read.Answer.{Answer}
@@ -72,7 +72,7 @@ abbrev pub Accepted : List Call → List ℕ → ℕ → List ℕ → List ℕ �
 Accepted [] s k t z m v = (z ≡ s) × (m ≡ k) × (v ≡ t)
 Accepted (c ∷ cs) s k t z m v =
     let call = editing s t k (c .start) (c .end) (c .new) in
-    (n : ℕ) × (answer call (length (c .table) / width) ≡ Answer.Rows n)
+    (n : ℕ) × (answer call (room (c .table)) ≡ Answer.Rows n)
     × Accepted cs (edited s (c .start) (c .end) (c .new)) n (left call (c .table)) z m v
 
 -- then that table has the rows of recovering reading of that ledger

@@ -1,13 +1,13 @@
 -- M-109: one block of a ledger is replaced, and the rows of the new ledger are made from the old one's: only the new
 -- bytes are read.
-use Prim.Native.Nat.{ℕ, _+_, _-_, _/_, _%_}
+use Prim.Native.Nat.{ℕ, _+_, _-_, _%_}
 use mathlib.Core.Bool.{Bool, cond, _||_, _&&_}
 use mathlib.Core.List.{List, [], _∷_, _++_, map}
 use lib.Dec.{eqb, ltb, leb}
 use lib.ListN.{length, getD, take, drop}
 use Rattle.text.specs.Permitted.{sizeLimit}
 use Rattle.row.specs.declared.table.Row.{Row}
-use Rattle.row.specs.Row.{width, rowsIn, feeds}
+use Rattle.row.specs.Row.{rowsIn, feeds, room}
 use Rattle.row.specs.Details.{spanned}
 use Rattle.row.specs.Strings.{cuts}
 use Rattle.ledger.specs.Plain.{Reading, accepted, denied}
@@ -89,4 +89,4 @@ grows s a e y = leb a e && (leb e (length s) && ltb sizeLimit (length s - (e - a
 unfoldable pub editing : List ℕ → List ℕ → ℕ → ℕ → ℕ → List ℕ → Reading
 editing s t k a e y =
     cond (ltb sizeLimit (length s) || grows s a e y) (denied 1 0)
-    (cond (isBlock s a e && (leb k (length t / width) && isNew s a e y)) (accepted (editRows s a e y (rowsIn k t))) (denied 10 0))
+    (cond (isBlock s a e && (leb k (room t) && isNew s a e y)) (accepted (editRows s a e y (rowsIn k t))) (denied 10 0))

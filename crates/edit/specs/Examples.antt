@@ -5,8 +5,9 @@ use mathlib.Core.Path.{_≡_, refl}
 use mathlib.Core.List.{List, [], _∷_, _++_, map}
 use Rattle.text.specs.Bytes.{bytes, isDigit, isSmall}
 use Rattle.row.specs.declared.table.Row.{Row}
-use Rattle.row.specs.Row.{rowBytes, rowsBytes, rowIn, rowsIn, feeds}
+use Rattle.row.specs.Row.{rowBytes, rowsBytes, rowIn, rowsIn, feeds, fieldBytes, fieldsIn}
 use Rattle.row.specs.Details.{spanned}
+use Rattle.row.specs.Pouring.{bytesOf}
 use Rattle.ledger.specs.Plain.{Reading, accepted, denied}
 use Rattle.recovery.specs.Recovering.{blockLength, recoverBy}
 use Rattle.recovery.specs.Demand3.{startsTail, endsLine}
@@ -73,5 +74,5 @@ abbrev listed : Case → Reading
 listed (rs, k, a, e, y, r) = r
 
 pub edits-hold : map answered (edits ++ refusals) ≡ map listed (edits ++ refusals)
-unfolding editing grows isBlock isNew editRows such shift rowsIn rowIn rowsBytes rowBytes feeds spanned blockLength recoverBy startsTail endsLine bytes isDigit isSmall
+unfolding editing grows isBlock isNew editRows such shift rowsIn rowIn fieldsIn bytesOf rowBytes fieldBytes feeds spanned blockLength recoverBy startsTail endsLine bytes isDigit isSmall
 edits-hold = refl

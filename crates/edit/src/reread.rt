@@ -15,7 +15,7 @@ ghost use mathlib.Core.Bool.{cond};
 ghost use Prim.Native.Nat.{_*_, _+_, _/_, _≤_};
 ghost use lib.ListN.{length};
 ghost use Rattle.text.specs.Permitted.{sizeLimit};
-ghost use Rattle.row.specs.Row.{width, pour};
+ghost use Rattle.row.specs.Row.{width, pour, room};
 ghost use Rattle.ledger.specs.Answers.{answer, left};
 ghost use Rattle.recovery.specs.Recovering.{recoverFrom};
 ghost use Rattle.edit.specs.Edits.{grows, editing};
@@ -187,7 +187,7 @@ pub fn edit(
     new: &[u8],
     table: &mut [u8],
 ) -> Answer
-    ensures answer { λ r. ⌜ r ≡ answer (editing (now (old .entry)) (now (rows .entry)) k start end (now (new .entry))) (length (now (table .entry)) / width) ⌝ }
+    ensures answer { λ r. ⌜ r ≡ answer (editing (now (old .entry)) (now (rows .entry)) k start end (now (new .entry))) (room (now (table .entry))) ⌝ }
     ensures rows { λ _. ⌜ now (table .exit) ≡ left (editing (now (old .entry)) (now (rows .entry)) k start end (now (new .entry))) (now (table .entry)) ⌝ }
 {
     let number = refused(old, rows, k, start, end, new);

@@ -1,5 +1,5 @@
 -- Rows that are written with no line, and then get their lines.
-use Prim.Native.Nat.{ℕ, _+_, _/_, _≤_}
+use Prim.Native.Nat.{ℕ, _+_, _≤_}
 use native.Mathlib.Nat.{zero-add}
 use native.Mathlib.Omega.{arith}
 use mathlib.Core.Path.{_≡_, refl, sym, _∙_, ap}
@@ -9,7 +9,7 @@ use lib.ListN.{length, take, length-map}
 use Rattle.text.specs.Permitted.{sizeLimit}
 use Rattle.text.specs.Every.{Every}
 use Rattle.row.specs.declared.table.Row.{Row}
-use Rattle.row.specs.Row.{feeds, lined, pour}
+use Rattle.row.specs.Row.{feeds, lined, pour, room}
 use Rattle.row.specs.steps.Sweep.{linesSet}
 use Rattle.row.proofs.PourLaws.{pour-room}
 use Rattle.row.proofs.SweepLaws.{Low, lines-poured}
@@ -38,11 +38,11 @@ module _ (top : ℕ) (s : List ℕ) where
   rows-low [] l h = tt
   rows-low (r ∷ rs) l (h, hs) = (omega (arith, h .place, h .inside), rows-low rs l hs)
 
-  pub lines-left : (rs : List Row) (t : List ℕ) → Kept top 0 1 s rs → length s ≤ sizeLimit → length rs ≤ length t / 32
+  pub lines-left : (rs : List Row) (t : List ℕ) → Kept top 0 1 s rs → length s ≤ sizeLimit → length rs ≤ room t
       → linesSet s (length rs) (pour (map (withLine 0) rs) t) ≡ left (accepted rs) t
   unfolding left
   lines-left rs t k l h =
       let n : length rs ≡ length (map (withLine 0) rs) = sym (length-map rs (withLine 0)) in
       ap (λ k. linesSet s k (pour (map (withLine 0) rs) t)) n
       ∙ lines-poured s (map (withLine 0) rs) t (rows-low rs l (k .lines))
-      ∙ rw (lined-again s 0 rs, rows-lined rs (k .lines), pour-room rs t h, le-leb (length rs) (length t / 32) h)
+      ∙ rw (lined-again s 0 rs, rows-lined rs (k .lines), pour-room rs t h, le-leb (length rs) (room t) h)

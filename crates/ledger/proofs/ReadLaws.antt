@@ -1,5 +1,5 @@
 -- Plain reading: its answers and its table, each from what the code knows where it answers.
-use Prim.Native.Nat.{ℕ, _+_, _*_, _-_, _/_, _≤_, _<_}
+use Prim.Native.Nat.{ℕ, _+_, _*_, _-_, _≤_, _<_}
 use native.Mathlib.Nat.{zero-add}
 use native.Mathlib.Omega.{arith}
 use mathlib.Core.Path.{_≡_, refl, sym, _∙_, ap, subst}
@@ -12,7 +12,7 @@ use lib.ListN.{length, length-map, take, drop, length-take, drop-of-length-le}
 use Rattle.text.specs.Permitted.{clean, sizeLimit}
 use Rattle.amount.proofs.RowCounts.{refusalKind}
 use Rattle.row.specs.declared.table.Row.{Row}
-use Rattle.row.specs.Row.{pour, rowsBytes}
+use Rattle.row.specs.Row.{pour, rowsBytes, room, width}
 use Rattle.row.specs.Details.{spanned}
 use Rattle.ledger.specs.Strict.{objection}
 use Rattle.row.specs.steps.Writing.{Poured}
@@ -84,13 +84,13 @@ module _ (s : List ℕ) (rs : List Row) where
 
 -- ---- rows into the part of a table that they fill: none fits behind them
 
-filled : (n : ℕ) (rs : List Row) (t v : List ℕ) → n ≡ length rs → n ≤ length t / 32 → Poured 0 rs (take (n * 32) (drop 0 t)) v → putMid 0 (n * 32) t v ≡ pour rs t
+filled : (n : ℕ) (rs : List Row) (t v : List ℕ) → n ≡ length rs → n ≤ room t → Poured 0 rs (take (n * width) (drop 0 t)) v → putMid 0 (n * width) t v ≡ pour rs t
 filled n rs t v e h (xs, p) =
-    let a = take (n * 32) t in
-    let la : length a ≡ n * 32 = rw length-take (omega arith) in
+    let a = take (n * width) t in
+    let la : length a ≡ n * width = rw length-take (omega arith) in
     let full : pour (rs ++ xs) a ≡ pour rs a =
     pour-append rs xs a ∙ pourAt-full (length rs) xs (pour rs a) (rw (length-pour, la) (omega arith)) in
-    let b : pour rs a ≡ rowsBytes rs = pour-all rs a (rw la (omega arith)) ∙ rw (drop-of-length-le a {i = length rs * 32} (rw la (omega arith))) (append-nil (rowsBytes rs)) in
+    let b : pour rs a ≡ rowsBytes rs = pour-all rs a (rw la (omega arith)) ∙ rw (drop-of-length-le a {i = length rs * width} (rw la (omega arith))) (append-nil (rowsBytes rs)) in
     rw (p ∙ pourAt-zero (rs ++ xs) a ∙ full ∙ b, pour-all rs t (omega arith), e)
 
 -- ---- the second pass: the first answered that n rows are wanted
@@ -121,36 +121,36 @@ module _ (k : Profile) (s : List ℕ) (n : ℕ) (w : Scan.Whole n ≡ scanAnswer
   abbrev rows : (rs : List Row) × (readingBy k s ≡ accepted rs) × (n ≡ length rs)
   rows = was-whole k s n w
 
-  module _ (h : length t / 32 < n) where
-    short : length t / 32 < length (rows .0)
+  module _ (h : room t < n) where
+    short : room t < length (rows .0)
     short = omega (arith, rows .2)
 
-    pub written-full : (r : Answer) → r ≡ Answer.Refusal 9 0 n → r ≡ answer (readingBy k s) (length t / 32)
+    pub written-full : (r : Answer) → r ≡ Answer.Refusal 9 0 n → r ≡ answer (readingBy k s) (room t)
     unfolding answer
-    written-full r e = e ∙ ap (Answer.Refusal 9 0) (rows .2) ∙ rw (rows .1, lt-leb (length (rows .0)) (length t / 32) short)
+    written-full r e = e ∙ ap (Answer.Refusal 9 0) (rows .2) ∙ rw (rows .1, lt-leb (length (rows .0)) (room t) short)
 
     pub written-none : t ≡ left (readingBy k s) t
     unfolding left
-    written-none = rw (rows .1, lt-leb (length (rows .0)) (length t / 32) short)
+    written-none = rw (rows .1, lt-leb (length (rows .0)) (room t) short)
 
-  module _ (h : n ≤ length t / 32) where
-    room : length (rows .0) ≤ length t / 32
-    room = omega (arith, rows .2)
+  module _ (h : n ≤ room t) where
+    enough : length (rows .0) ≤ room t
+    enough = omega (arith, rows .2)
 
-    pub written-rows : Answer.Rows n ≡ answer (readingBy k s) (length t / 32)
+    pub written-rows : Answer.Rows n ≡ answer (readingBy k s) (room t)
     unfolding answer
-    written-rows = ap Answer.Rows (rows .2) ∙ rw (rows .1, le-leb (length (rows .0)) (length t / 32) room)
+    written-rows = ap Answer.Rows (rows .2) ∙ rw (rows .1, le-leb (length (rows .0)) (room t) enough)
 
-    pub written-table : (v u : List ℕ) → ScanPoured (scanned 0 s) (take (n * 32 - 0) (drop 0 t)) v → u ≡ linesSet s n (putMid 0 (n * 32 - 0) t v) → u ≡ left (readingBy k s) t
+    pub written-table : (v u : List ℕ) → ScanPoured (scanned 0 s) (take (n * width - 0) (drop 0 t)) v → u ≡ linesSet s n (putMid 0 (n * width - 0) t v) → u ≡ left (readingBy k s) t
     written-table v u p q =
         let rs = rows .0 in
-        let z : n * 32 - 0 ≡ n * 32 = omega arith in
-        let y = subst (λ i. ScanPoured (accepted rs) (take i (drop 0 t)) v) z (subst (λ x. ScanPoured x (take (n * 32 - 0) (drop 0 t)) v) (rows-whole k s n w .2) p) in
+        let z : n * width - 0 ≡ n * width = omega arith in
+        let y = subst (λ i. ScanPoured (accepted rs) (take i (drop 0 t)) v) z (subst (λ x. ScanPoured x (take (n * width - 0) (drop 0 t)) v) (rows-whole k s n w .2) p) in
         q
         ∙ ap (λ i. linesSet s n (putMid 0 i t v)) z
         ∙ ap (linesSet s n) (filled n (map (withLine 0) rs) t v (rows .2 ∙ sym (length-map rs (withLine 0))) h y)
         ∙ ap (λ i. linesSet s i (pour (map (withLine 0) rs) t)) (rows .2)
-        ∙ lines-left refusalKind s rs t (part-kept s rs (part-scanned 0 s (rows-whole k s n w .1) ∙ rows-whole k s n w .2)) (rows-whole k s n w .0) room
+        ∙ lines-left refusalKind s rs t (part-kept s rs (part-scanned 0 s (rows-whole k s n w .1) ∙ rows-whole k s n w .2)) (rows-whole k s n w .0) enough
         ∙ ap (λ x. left x t) (sym (rows .1))
 
 pub ruleset written-laws = (whole-small, written-full, written-none, written-rows, written-table)

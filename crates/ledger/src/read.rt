@@ -12,6 +12,7 @@ ghost use Rattle.ledger.specs.Plain.{plain};
 ghost use Rattle.ledger.specs.Strict.{strict, readingBy};
 ghost use Rattle.ledger.specs.Answers.{answer, left};
 ghost use Rattle.ledger.specs.steps.Scan.{scanAnswer};
+ghost use Rattle.row.specs.Row.{room};
 
 pub enum Answer {
     Rows(usize),
@@ -46,7 +47,7 @@ pub fn verdict(ledger: &[u8], profile: Profile) -> Scan
 // The second pass, which writes: n rows, if there is room for them. It is lent the part of the table that they fill, so that no other byte changes.
 fn written(ledger: &[u8], table: &mut [u8], n: usize, profile: Profile) -> Answer
     requires { ⌜ Scan.Whole n ≡ scanAnswer (readingBy profile (now ledger)) ⌝ }
-    ensures answer { λ r. ⌜ r ≡ answer (readingBy profile (now (ledger .entry))) (length (now (table .entry)) / 32) ⌝ }
+    ensures answer { λ r. ⌜ r ≡ answer (readingBy profile (now (ledger .entry))) (room (now (table .entry))) ⌝ }
     ensures rows { λ _. ⌜ now (table .exit) ≡ left (readingBy profile (now (ledger .entry))) (now (table .entry)) ⌝ }
 {
     if table.len() / WIDTH < n {
@@ -60,7 +61,7 @@ fn written(ledger: &[u8], table: &mut [u8], n: usize, profile: Profile) -> Answe
 
 // A ledger's reading in a profile, into a row table. A refusal leaves every byte of the table.
 fn read_by(ledger: &[u8], table: &mut [u8], profile: Profile) -> Answer
-    ensures answer { λ r. ⌜ r ≡ answer (readingBy profile (now (ledger .entry))) (length (now (table .entry)) / 32) ⌝ }
+    ensures answer { λ r. ⌜ r ≡ answer (readingBy profile (now (ledger .entry))) (room (now (table .entry))) ⌝ }
     ensures rows { λ _. ⌜ now (table .exit) ≡ left (readingBy profile (now (ledger .entry))) (now (table .entry)) ⌝ }
 {
     let v = verdict(ledger, profile);
@@ -72,7 +73,7 @@ fn read_by(ledger: &[u8], table: &mut [u8], profile: Profile) -> Answer
 
 // Plain reading.
 pub fn read(ledger: &[u8], table: &mut [u8]) -> Answer
-    ensures answer { λ r. ⌜ r ≡ answer (plain (now (ledger .entry))) (length (now (table .entry)) / 32) ⌝ }
+    ensures answer { λ r. ⌜ r ≡ answer (plain (now (ledger .entry))) (room (now (table .entry))) ⌝ }
     ensures rows { λ _. ⌜ now (table .exit) ≡ left (plain (now (ledger .entry))) (now (table .entry)) ⌝ }
 {
     read_by(ledger, table, Profile::Plain)
@@ -80,7 +81,7 @@ pub fn read(ledger: &[u8], table: &mut [u8]) -> Answer
 
 // Strict reading (M-110): plain reading, and lost lines (16) and flags but `*` and `!` (17) are refused.
 pub fn read_strict(ledger: &[u8], table: &mut [u8]) -> Answer
-    ensures answer { λ r. ⌜ r ≡ answer (strict (now (ledger .entry))) (length (now (table .entry)) / 32) ⌝ }
+    ensures answer { λ r. ⌜ r ≡ answer (strict (now (ledger .entry))) (room (now (table .entry))) ⌝ }
     ensures rows { λ _. ⌜ now (table .exit) ≡ left (strict (now (ledger .entry))) (now (table .entry)) ⌝ }
 {
     read_by(ledger, table, Profile::Strict)

@@ -9,6 +9,7 @@ use lib.ListN.{length, take, drop}
 use lib.Seq.{take-at}
 use Rattle.text.specs.Permitted.{sizeLimit}
 use Rattle.row.specs.declared.table.Row.{Row}
+use Rattle.row.specs.Row.{width}
 use Rattle.ledger.specs.Plain.{Reading, accepted, plain}
 use Rattle.layout.specs.Written.{written}
 use Rattle.layout.proofs.Rewrites.{m-103}
@@ -26,14 +27,14 @@ module _ (s : List ℕ) (rs : List Row) (o w : List ℕ) (r : Reply) (o′ w′ 
   wrote : (r .count ≡ length (written s rs)) × (o′ ≡ written s rs ++ drop (length (written s rs)) o)
   unfolding answered outputLeft rewriteReply
   wrote =
-      go (leb (length rs * 32) (length w)) (leb (length (written s rs)) (length o)) (subst (λ (x : Reading). r ≡ rewriteReply (answered s (length o) (length w) x)) a (P .reply))
+      go (leb (length rs * width) (length w)) (leb (length (written s rs)) (length o)) (subst (λ (x : Reading). r ≡ rewriteReply (answered s (length o) (length w) x)) a (P .reply))
       (subst (λ (x : Reading). o′ ≡ outputLeft s (length w) o x) a (P .output))
     where
-      go : (b c : Bool) → r ≡ rewriteReply (cond b (cond c (Answer.Bytes (length (written s rs))) (Answer.Refusal 9 0 (length (written s rs)))) (Answer.Refusal 9 1 (length rs * 32)))
+      go : (b c : Bool) → r ≡ rewriteReply (cond b (cond c (Answer.Bytes (length (written s rs))) (Answer.Refusal 9 0 (length (written s rs)))) (Answer.Refusal 9 1 (length rs * width)))
           → o′ ≡ cond b (cond c (written s rs ++ drop (length (written s rs)) o) o) o → (r .count ≡ length (written s rs)) × (o′ ≡ written s rs ++ drop (length (written s rs)) o)
       go true true e f = (ap (λ (x : Reply). x .count) e, f)
       go true false e f = absurd (nine-refused 0 (length (written s rs)) r e z)
-      go false c e f = absurd (nine-refused 1 (length rs * 32) r e z)
+      go false c e f = absurd (nine-refused 1 (length rs * width) r e z)
 
   pub text-is : take (r .count) o′ ≡ written s rs
   text-is = rw (wrote .0, wrote .1) (take-at (written s rs) (drop (length (written s rs)) o) (length (written s rs)) refl)

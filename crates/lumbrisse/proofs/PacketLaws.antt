@@ -1,5 +1,5 @@
 -- What an accepted packet is, and that it reads back.
-use Prim.Native.Nat.{ℕ, _+_, _*_, _/_, min}
+use Prim.Native.Nat.{ℕ, _+_, _*_, min}
 use native.Mathlib.Omega.{arith}
 use mathlib.Core.Path.{_≡_, refl, sym, _∙_, ap}
 use mathlib.Core.Bool.{Bool, true, false, cond}
@@ -10,7 +10,7 @@ use lib.ListN.{length, take, drop}
 use lib.Seq.{take-append-seam}
 use Rattle.text.proofs.TestLaws.{absurd-bool}
 use Rattle.row.specs.declared.table.Row.{Row}
-use Rattle.row.specs.Row.{rowsBytes}
+use Rattle.row.specs.Row.{rowsBytes, room, width}
 use Rattle.ledger.specs.Plain.{accepted}
 use Rattle.ledger.specs.Answers.{answer, left}
 use Rattle.ledger.specs.declared.read.Answer.{Answer}
@@ -53,12 +53,12 @@ table-reads-back s t b u k r p z =
 -- ---- so is the table of an accepted reading
 
 module _ (rows : List Row) (t v : List ℕ) (q : Reply) (p : TablePromise (accepted rows) t q v) (z : q .number ≡ 0) where
-  accepted-table : (q .count ≡ length rows) × (v ≡ rowsBytes rows ++ drop (length rows * 32) t)
+  accepted-table : (q .count ≡ length rows) × (v ≡ rowsBytes rows ++ drop (length rows * width) t)
   unfolding answer left replyOf
-  accepted-table = go (leb (length rows) (length t / 32)) (p .reply) (p .rows)
+  accepted-table = go (leb (length rows) (room t)) (p .reply) (p .rows)
     where
       go : (l : Bool) → q ≡ replyOf (cond l (Answer.Rows (length rows)) (Answer.Refusal 9 0 (length rows)))
-          → v ≡ cond l (rowsBytes rows ++ drop (length rows * 32) t) t → (q .count ≡ length rows) × (v ≡ rowsBytes rows ++ drop (length rows * 32) t)
+          → v ≡ cond l (rowsBytes rows ++ drop (length rows * width) t) t → (q .count ≡ length rows) × (v ≡ rowsBytes rows ++ drop (length rows * width) t)
       go true er ev = (ap (λ (x : Reply). x .count) er, ev)
       go false er ev = absurd (let y : q .number ≡ 9 = ap (λ (x : Reply). x .number) er in omega arith)
 
@@ -66,4 +66,4 @@ pub reading-reads-back : ReadingReadsBack
 reading-reads-back s t v b u rows q r p z w y =
     let a = accepted-table rows t v q p z in
     table-reads-back s v b u (q .count) r w y
-    ∙ ap all (ap (λ (n : ℕ). items s n v) (a .0) ∙ ap (items s (length rows)) (a .1) ∙ items-rows s rows (drop (length rows * 32) t))
+    ∙ ap all (ap (λ (n : ℕ). items s n v) (a .0) ∙ ap (items s (length rows)) (a .1) ∙ items-rows s rows (drop (length rows * width) t))

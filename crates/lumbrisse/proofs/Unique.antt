@@ -1,10 +1,10 @@
 -- Each export's promise fixes its answer: two answers that meet it are equal, with every lent byte; and for every input there is one.
-use Prim.Native.Nat.{ℕ, _/_}
+use Prim.Native.Nat.{ℕ}
 use mathlib.Core.Path.{_≡_, refl, sym, _∙_}
 use mathlib.Core.Bool.{Bool, true, false}
 use mathlib.Core.List.{List}
 use lib.ListN.{length, take, drop}
-use Rattle.row.specs.Row.{width}
+use Rattle.row.specs.Row.{room}
 use Rattle.ledger.specs.Plain.{Reading, plain}
 use Rattle.ledger.specs.Answers.{answer, left}
 use Rattle.decimal.specs.declared.Form.{Form}
@@ -58,7 +58,7 @@ step-unique a b = (same-defined (a .answer) (b .answer), (same-defined (a .row) 
 -- ---- an answer to every call
 
 pub table-total : (x : Reading) (t : List ℕ) → (r : Reply) × ((u : List ℕ) × TablePromise x t r u)
-table-total x t = (replyOf (answer x (length t / width)), (left x t, record { reply = refl; rows = refl }))
+table-total x t = (replyOf (answer x (room t)), (left x t, record { reply = refl; rows = refl }))
 
 pub write-unique : {s o w o₁ w₁ o₂ w₂ : List ℕ} {r q : Reply} → WritePromise s o w r o₁ w₁ → WritePromise s o w q o₂ w₂ → (r ≡ q) × ((o₁ ≡ o₂) × (w₁ ≡ w₂))
 write-unique a b = (same-defined (a .reply) (b .reply), (same-defined (a .output) (b .output), same-defined (a .work) (b .work)))

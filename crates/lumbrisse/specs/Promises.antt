@@ -1,10 +1,10 @@
 -- What each export promises for every input: its answer r, and every lent byte u afterwards.
-use Prim.Native.Nat.{ℕ, _/_}
+use Prim.Native.Nat.{ℕ}
 use mathlib.Core.Path.{_≡_}
 use mathlib.Core.List.{List}
 use lib.ListN.{length, take, drop}
 use Rattle.decimal.specs.declared.Form.{Form}
-use Rattle.row.specs.Row.{width}
+use Rattle.row.specs.Row.{room}
 use Rattle.ledger.specs.Plain.{Reading, plain}
 use Rattle.ledger.specs.Answers.{answer, left}
 use Rattle.access.specs.Single.{evaluated}
@@ -23,7 +23,7 @@ use Rattle.lumbrisse.specs.Numbers.{replyOf, totalsReply, rewriteReply, 
 
 -- a reading of a ledger into a table t: plain or recovering, in either profile, or that of an edited ledger
 pub record TablePromise (reading : Reading) (t : List ℕ) (r : Reply) (u : List ℕ) : Type 0 where
-  pub reply : r ≡ replyOf (answer reading (length t / width))
+  pub reply : r ≡ replyOf (answer reading (room t))
   pub rows : u ≡ left reading t
 
 -- the totals of a ledger s for a year and month into a buffer t, with the working spaces w and u

@@ -92,7 +92,7 @@ pub extern "C" fn lumbrisse_totals(
     reply::totals_reply(a)
 }
 
-// A ledger written afresh (M-103): how many bytes, or a refusal. `work` is working space: 32 bytes for each row.
+// A ledger written afresh (M-103): how many bytes, or a refusal. `work` is working space: a row's width for each row.
 #[no_mangle]
 pub extern "C" fn lumbrisse_write(ledger: &[u8], output: &mut [u8], work: &mut [u8]) -> Reply
     ensures { λ r. ⌜ WritePromise (now (ledger .entry)) (now (output .entry)) (now (work .entry)) r (now (output .exit)) (now (work .exit)) ⌝ }

@@ -10,7 +10,8 @@ use lib.ListN.{length, getD, take, drop, drop-of-length-le}
 use Rattle.text.proofs.Steps.{drop-step}
 use Rattle.text.proofs.TestLaws.{and-left, and-right}
 use Rattle.row.specs.declared.table.Row.{Row}
-use Rattle.row.specs.Row.{rowIn}
+use Rattle.row.specs.Row.{fieldsIn}
+use Rattle.order.specs.Records.{recordWidth}
 use Rattle.access.specs.Spans.{spanText}
 use Rattle.order.specs.declared.compare.Order.{Order}
 use Rattle.order.specs.declared.compare.Order.the-variants.{Before, Same, After}
@@ -84,14 +85,14 @@ spans-told s x y a b c d r ex ey er = rw (er, ex, ey)
 
 -- ---- a record's row, from its own bytes
 
-pub row-there : (t : List ℕ) (a e : ℕ) (r : Row) → e ≡ a + 32 → r ≡ rowIn (take (e - a) (drop a t)) → r ≡ rowIn (take 32 (drop a t))
+pub row-there : (t : List ℕ) (a e : ℕ) (r : Row) → e ≡ a + recordWidth → r ≡ fieldsIn (take (e - a) (drop a t)) → r ≡ fieldsIn (take recordWidth (drop a t))
 row-there t a e r h k =
-    let w : e - a ≡ 32 = omega arith in
+    let w : e - a ≡ recordWidth = omega arith in
     rw w at k
 
 -- ---- records, by their rows a and b: o and u are the orders of their texts
 
-module _ (s x y : List ℕ) (a b : Row) (ea : a ≡ rowIn x) (eb : b ≡ rowIn y) where
+module _ (s x y : List ℕ) (a b : Row) (ea : a ≡ fieldsIn x) (eb : b ≡ fieldsIn y) where
   kinds-first : (o u : Order) → o ≡ texts (spanText s (a .start) (a .end)) (spanText s (b .start) (b .end))
       → u ≡ texts (spanText s (a .p) (a .q)) (spanText s (b .p) (b .q))
       → numbers (a .kind) (b .kind) next (o next u) ≡ orderOf (saidIn s x) (saidIn s y)

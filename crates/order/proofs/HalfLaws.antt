@@ -1,5 +1,5 @@
 -- A buffer sorted by halves is the buffer sorted.
-use Prim.Native.Nat.{ℕ, zero, suc, _+_, _-_, _*_, _/_, _≤_, _<_}
+use Prim.Native.Nat.{ℕ, zero, suc, _+_, _-_, _*_, _≤_, _<_}
 use native.Mathlib.Nat.{zero-add}
 use native.Mathlib.Omega.{arith}
 use mathlib.Core.Path.{_≡_, refl, sym, ap, _∙_}
@@ -15,6 +15,7 @@ use Rattle.order.specs.steps.Merge.{merging}
 use Rattle.order.proofs.Orders.{by-either, by-through}
 use Rattle.order.proofs.SortLaws.{perm-length, sorted-perm, sorted-ordered, sorted-halves}
 use Rattle.order.proofs.RecordLaws.{Wide, length-joined, joined-append, length-records, records-wide, joined-records, records-joined, sorted-wide}
+use Rattle.order.specs.Records.{recordWidth, recordRoom}
 
 length-sorted : (s : List ℕ) (rs : List (List ℕ)) → length (sorted (by (saidIn s)) rs) ≡ length rs
 length-sorted s rs = perm-length (sorted-perm (by (saidIn s)) rs)
@@ -24,26 +25,26 @@ wide-append [] ys h k = k
 wide-append (x ∷ xs) ys h k = (h .0, wide-append xs ys (h .1) k)
 
 -- a buffer that is made of records, and less than one more
-sorted-joined : (s : List ℕ) (rs : List (List ℕ)) (z : List ℕ) → Wide rs → length z < 32
+sorted-joined : (s : List ℕ) (rs : List (List ℕ)) (z : List ℕ) → Wide rs → length z < recordWidth
     → sortedBytes s (joined rs ++ z) ≡ joined (sorted (by (saidIn s)) rs) ++ z
 unfolding sortedBytes
 sorted-joined s rs z h l =
-    let e : length (joined rs ++ z) / 32 ≡ length rs = rw (length-append, length-joined rs h) (omega arith) in
-    rw (e, records-joined rs [] z 0 h refl, drop-at (joined rs) z (length rs * 32) (length-joined rs h))
+    let e : recordRoom (joined rs ++ z) ≡ length rs = rw (length-append, length-joined rs h) (omega arith) in
+    rw (e, records-joined rs [] z 0 h refl, drop-at (joined rs) z (length rs * recordWidth) (length-joined rs h))
 
 -- xs and ys are the halves, z is what is past them
-module _ (s : List ℕ) (xs ys : List (List ℕ)) (z : List ℕ) (wx : Wide xs) (wy : Wide ys) (lz : length z < 32) where
+module _ (s : List ℕ) (xs ys : List (List ℕ)) (z : List ℕ) (wx : Wide xs) (wy : Wide ys) (lz : length z < recordWidth) where
   X : List ℕ
   X = joined (sorted (by (saidIn s)) xs)
 
   Y : List ℕ
   Y = joined (sorted (by (saidIn s)) ys)
 
-  length-X : length X ≡ length xs * 32
+  length-X : length X ≡ length xs * recordWidth
   unfolding X
   length-X = length-joined (sorted (by (saidIn s)) xs) (sorted-wide (by (saidIn s)) xs wx) ∙ rw (length-sorted s xs)
 
-  length-Y : length Y ≡ length ys * 32
+  length-Y : length Y ≡ length ys * recordWidth
   unfolding Y
   length-Y = length-joined (sorted (by (saidIn s)) ys) (sorted-wide (by (saidIn s)) ys wy) ∙ rw (length-sorted s ys)
 
@@ -71,82 +72,82 @@ module _ (s : List ℕ) (xs ys : List (List ℕ)) (z : List ℕ) (wx : Wide xs) 
       )
 
   -- the buffer t is lent in two parts: p and q are these afterwards, a and b the buffer after each, v the working space
-  module _ (t p q a b u v w : List ℕ) (m : ℕ) (ex : take (m * 32) t ≡ joined xs) (ey : drop (m * 32) t ≡ joined ys ++ z)
-      (em : length xs ≡ m) (en : m + length ys ≡ length t / 32) where
-    one-half : p ≡ sortedBytes s (take (m * 32 - 0) (drop 0 t)) → a ≡ take 0 t ++ (p ++ drop (m * 32 - 0) (drop 0 t)) → a ≡ X ++ (joined ys ++ z)
+  module _ (t p q a b u v w : List ℕ) (m : ℕ) (ex : take (m * recordWidth) t ≡ joined xs) (ey : drop (m * recordWidth) t ≡ joined ys ++ z)
+      (em : length xs ≡ m) (en : m + length ys ≡ recordRoom t) where
+    one-half : p ≡ sortedBytes s (take (m * recordWidth - 0) (drop 0 t)) → a ≡ take 0 t ++ (p ++ drop (m * recordWidth - 0) (drop 0 t)) → a ≡ X ++ (joined ys ++ z)
     one-half ep ea =
-        let e0 : m * 32 - 0 ≡ m * 32 = omega arith in
+        let e0 : m * recordWidth - 0 ≡ m * recordWidth = omega arith in
         rw (ea, e0, ey, first-half (rw (e0, ex) at ep))
 
     module _ (ea : a ≡ X ++ (joined ys ++ z)) where
-      lx : length X ≡ m * 32
+      lx : length X ≡ m * recordWidth
       lx = rw (← em) length-X
 
-      da : drop (m * 32) a ≡ joined ys ++ z
-      da = rw ea (drop-at X (joined ys ++ z) (m * 32) lx)
+      da : drop (m * recordWidth) a ≡ joined ys ++ z
+      da = rw ea (drop-at X (joined ys ++ z) (m * recordWidth) lx)
 
-      both-halves : q ≡ sortedBytes s (take (length a - m * 32) (drop (m * 32) a)) → b ≡ take (m * 32) a ++ (q ++ drop (length a - m * 32) (drop (m * 32) a))
+      both-halves : q ≡ sortedBytes s (take (length a - m * recordWidth) (drop (m * recordWidth) a)) → b ≡ take (m * recordWidth) a ++ (q ++ drop (length a - m * recordWidth) (drop (m * recordWidth) a))
           → b ≡ X ++ (Y ++ z)
       both-halves eq eb =
-          let h : length (joined ys ++ z) ≤ length a - m * 32 = omega (arith, ap length ea ∙ length-append X (joined ys ++ z), lx) in
-          let f : q ≡ Y ++ z = second-half (rw (da, take-all (length a - m * 32) (joined ys ++ z) h) at eq) in
-          rw (eb, da, drop-of-length-le (joined ys ++ z) h, f, append-nil (Y ++ z), ea, take-at X (joined ys ++ z) (m * 32) lx)
+          let h : length (joined ys ++ z) ≤ length a - m * recordWidth = omega (arith, ap length ea ∙ length-append X (joined ys ++ z), lx) in
+          let f : q ≡ Y ++ z = second-half (rw (da, take-all (length a - m * recordWidth) (joined ys ++ z) h) at eq) in
+          rw (eb, da, drop-of-length-le (joined ys ++ z) h, f, append-nil (Y ++ z), ea, take-at X (joined ys ++ z) (m * recordWidth) lx)
 
     module _ (eb : b ≡ X ++ (Y ++ z)) where
       length-b : length b ≡ length t
       length-b =
           rw (eb, length-append X (Y ++ z), length-X, length-append Y z, length-Y)
-          (omega (arith, ap length ey, length-drop (m * 32) t, length-append (joined ys) z, length-joined ys wy))
+          (omega (arith, ap length ey, length-drop (m * recordWidth) t, length-append (joined ys) z, length-joined ys wy))
 
-      in-one : v ≡ merging s b 0 m m (length b / 32) ++ drop (length b / 32 * 32) u → w ≡ paste b 0 (drop 0 v) (length t / 32 * 32)
+      in-one : v ≡ merging s b 0 m m (recordRoom b) ++ drop (recordRoom b * recordWidth) u → w ≡ paste b 0 (drop 0 v) (recordRoom t * recordWidth)
           → w ≡ joined (sorted (by (saidIn s)) (xs ++ ys)) ++ z
       in-one ev ew =
           let all = joined (sorted (by (saidIn s)) (xs ++ ys)) in
-          let n = length t / 32 in
-          let lw : length all ≡ n * 32 =
+          let n = recordRoom t in
+          let lw : length all ≡ n * recordWidth =
           rw (length-joined (sorted (by (saidIn s)) (xs ++ ys)) (sorted-wide (by (saidIn s)) (xs ++ ys) (wide-append xs ys wx wy)), length-sorted s (xs ++ ys), length-append xs ys) (omega arith) in
           let mg : merging s (X ++ (Y ++ z)) 0 m m n ≡ all = rw em at (merged n (omega arith)) in
-          let f : v ≡ all ++ drop (n * 32) u = rw (length-b, eb, mg) at ev in
-          let k : length (X ++ Y) ≡ n * 32 = rw (length-append X Y, length-X, length-Y) (omega arith) in
-          let g : drop (n * 32) b ≡ z = rw (eb, ← append-assoc X Y z) (drop-at (X ++ Y) z (n * 32) k) in
-          rw (ew, f, take-at all (drop (n * 32) u) (n * 32) lw, zero-add, g)
+          let f : v ≡ all ++ drop (n * recordWidth) u = rw (length-b, eb, mg) at ev in
+          let k : length (X ++ Y) ≡ n * recordWidth = rw (length-append X Y, length-X, length-Y) (omega arith) in
+          let g : drop (n * recordWidth) b ≡ z = rw (eb, ← append-assoc X Y z) (drop-at (X ++ Y) z (n * recordWidth) k) in
+          rw (ew, f, take-at all (drop (n * recordWidth) u) (n * recordWidth) lw, zero-add, g)
 
 -- the whole: m is the number of records in the first part
-pub halves : (s t p q a b u v w : List ℕ) (m : ℕ) → m ≤ length t / 32
-    → p ≡ sortedBytes s (take (m * 32 - 0) (drop 0 t)) → a ≡ take 0 t ++ (p ++ drop (m * 32 - 0) (drop 0 t))
-    → q ≡ sortedBytes s (take (length a - m * 32) (drop (m * 32) a)) → b ≡ take (m * 32) a ++ (q ++ drop (length a - m * 32) (drop (m * 32) a))
-    → v ≡ merging s b 0 m m (length b / 32) ++ drop (length b / 32 * 32) u → w ≡ paste b 0 (drop 0 v) (length t / 32 * 32)
+pub halves : (s t p q a b u v w : List ℕ) (m : ℕ) → m ≤ recordRoom t
+    → p ≡ sortedBytes s (take (m * recordWidth - 0) (drop 0 t)) → a ≡ take 0 t ++ (p ++ drop (m * recordWidth - 0) (drop 0 t))
+    → q ≡ sortedBytes s (take (length a - m * recordWidth) (drop (m * recordWidth) a)) → b ≡ take (m * recordWidth) a ++ (q ++ drop (length a - m * recordWidth) (drop (m * recordWidth) a))
+    → v ≡ merging s b 0 m m (recordRoom b) ++ drop (recordRoom b * recordWidth) u → w ≡ paste b 0 (drop 0 v) (recordRoom t * recordWidth)
     → w ≡ sortedBytes s t
 halves s t p q a b u v w m lm ep ea eq eb ev ew =
-    let n = length t / 32 in
+    let n = recordRoom t in
     let xs = recordsFrom t 0 m in
     let ys = recordsFrom t m (n - m) in
-    let z = drop (n * 32) t in
+    let z = drop (n * recordWidth) t in
     let wx : Wide xs = records-wide t 0 m (omega arith) in
     let wy : Wide ys = records-wide t m (n - m) (omega arith) in
-    let lz : length z < 32 = rw length-drop (omega arith) in
+    let lz : length z < recordWidth = rw length-drop (omega arith) in
     let em : length xs ≡ m = length-records t 0 m in
     let en : m + length ys ≡ n = rw (length-records t m (n - m)) (omega arith) in
-    let ex : take (m * 32) t ≡ joined xs = sym (joined-records t 0 m) in
-    let e : m * 32 + (n - m) * 32 ≡ n * 32 = omega arith in
-    let ey : drop (m * 32) t ≡ joined ys ++ z =
-    rw (joined-records t m (n - m), ← e, ← drop-drop ((n - m) * 32) (m * 32) t) (sym (take-append-drop ((n - m) * 32) (drop (m * 32) t))) in
+    let ex : take (m * recordWidth) t ≡ joined xs = sym (joined-records t 0 m) in
+    let e : m * recordWidth + (n - m) * recordWidth ≡ n * recordWidth = omega arith in
+    let ey : drop (m * recordWidth) t ≡ joined ys ++ z =
+    rw (joined-records t m (n - m), ← e, ← drop-drop ((n - m) * recordWidth) (m * recordWidth) t) (sym (take-append-drop ((n - m) * recordWidth) (drop (m * recordWidth) t))) in
     let fa = one-half s xs ys z wx wy lz t p q a b u v w m ex ey em en ep ea in
     let fb = both-halves s xs ys z wx wy lz t p q a b u v w m ex ey em en fa eq eb in
     let et : joined (xs ++ ys) ++ z ≡ t =
-    rw (joined-append xs ys, append-assoc (joined xs) (joined ys) z, ← ey, ← ex) (take-append-drop (m * 32) t) in
+    rw (joined-append xs ys, append-assoc (joined xs) (joined ys) z, ← ey, ← ex) (take-append-drop (m * recordWidth) t) in
     in-one s xs ys z wx wy lz t p q a b u v w m ex ey em en fb ev ew
     ∙ sym (sorted-joined s (xs ++ ys) z (wide-append xs ys wx wy) lz)
     ∙ ap (sortedBytes s) et
 
 -- a buffer with one record at the most is sorted
-pub few-sorted : (s t : List ℕ) → length t / 32 < 2 → t ≡ sortedBytes s t
+pub few-sorted : (s t : List ℕ) → recordRoom t < 2 → t ≡ sortedBytes s t
 unfolding sortedBytes sorted insert recordsFrom joined
-few-sorted s t h = go (length t / 32) h
+few-sorted s t h = go (recordRoom t) h
   where
-    go : (n : ℕ) → n < 2 → t ≡ joined (sorted (by (saidIn s)) (recordsFrom t 0 n)) ++ drop (n * 32) t
+    go : (n : ℕ) → n < 2 → t ≡ joined (sorted (by (saidIn s)) (recordsFrom t 0 n)) ++ drop (n * recordWidth) t
     go zero l = refl
-    go (suc zero) l = sym (rw append-nil (take-append-drop 32 t))
+    go (suc zero) l = sym (ap (λ (z : List ℕ). z ++ drop recordWidth t) (append-nil (take recordWidth t)) ∙ take-append-drop recordWidth t)
     go (suc (suc n)) l = absurd (omega arith)
 
 -- ---- the call: room is the number of bytes of whole records, n the length of the working space
@@ -170,16 +171,16 @@ pub ruleset call-laws = (no-space, space, no-space-left, space-sorted)
 
 pub records-sorted : (s t : List ℕ) → recordsOf (sortedBytes s t) ≡ sorted (by (saidIn s)) (recordsOf t)
 records-sorted s t =
-    let n = length t / 32 in
+    let n = recordRoom t in
     let rs = recordsOf t in
-    let z = drop (n * 32) t in
+    let z = drop (n * recordWidth) t in
     let w : Wide rs = records-wide t 0 n (omega arith) in
     let v = sorted-wide (by (saidIn s)) rs w in
     let x = sorted (by (saidIn s)) rs in
-    let lz : length z < 32 = rw length-drop (omega arith) in
-    let e : joined rs ++ z ≡ t = rw (joined-records t 0 n) (take-append-drop (n * 32) t) in
+    let lz : length z < recordWidth = rw length-drop (omega arith) in
+    let e : joined rs ++ z ≡ t = rw (joined-records t 0 n) (take-append-drop (n * recordWidth) t) in
     let f : sortedBytes s t ≡ joined x ++ z = ap (sortedBytes s) (sym e) ∙ sorted-joined s rs z w lz in
-    let k : length (joined x ++ z) / 32 ≡ length x = rw (length-append, length-joined x v) (omega arith) in
+    let k : recordRoom (joined x ++ z) ≡ length x = rw (length-append, length-joined x v) (omega arith) in
     rw (f, k) (records-joined x [] z 0 v refl)
 
 pub bytes-ordered : (s t : List ℕ) → Ordered (by (saidIn s)) (recordsOf (sortedBytes s t))

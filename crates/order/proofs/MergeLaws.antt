@@ -1,5 +1,5 @@
 -- Laws of the merge, from what the code knows in each turn.
-use Prim.Native.Nat.{ℕ, _+_, _-_, _*_, _/_, _≤_, _<_}
+use Prim.Native.Nat.{ℕ, _+_, _-_, _*_, _≤_, _<_}
 use native.Mathlib.Nat.{add-zero}
 use native.Mathlib.Numerals.{add-one}
 use native.Mathlib.Omega.{arith}
@@ -12,6 +12,7 @@ use lib.ListN.{length, getD, take, drop, set, take-append-drop, length-set, leng
 use lib.Seq.{getD-drop, drop-drop, take-add, paste, paste-zero, paste-suc, take-paste, drop-paste, length-paste}
 use Rattle.text.proofs.TestLaws.{absurd-bool}
 use Rattle.row.proofs.PourLaws.{le-or-lt}
+use Rattle.order.specs.Records.{recordWidth, recordRoom}
 use Rattle.order.specs.declared.compare.Order.{Order}
 use Rattle.order.specs.declared.compare.Order.the-variants.{Before, Same, After}
 use Rattle.order.specs.Order.{saidIn, orderOf, upTo, mayPrecede, by}
@@ -63,9 +64,9 @@ copy-more d s i k n m h l e f =
     rw (f, e, take-paste d k (drop i s) n (omega arith) g, ← drop-drop m (k + n) (paste d k (drop i s) n), drop-paste d k (drop i s) n (omega arith) g, drop-drop m (k + n) d, a, take-add n m (drop i s), drop-drop n i s)
     (ap (λ (x : List ℕ). x ++ drop (k + (n + m)) d) (append-assoc (take k d) (take n (drop i s)) (take m (drop (i + n) s))))
 
-pub copy-record : (d s : List ℕ) (i k : ℕ) {a b c e : List ℕ} → i + 32 ≤ length s → k + 32 ≤ length d
+pub copy-record : (d s : List ℕ) (i k : ℕ) {a b c e : List ℕ} → i + recordWidth ≤ length s → k + recordWidth ≤ length d
     → a ≡ paste d k (drop i s) 8 → b ≡ paste a (k + 8) (drop (i + 8) s) 8 → c ≡ paste b (k + 16) (drop (i + 16) s) 8 → e ≡ paste c (k + 24) (drop (i + 24) s) 8
-    → e ≡ paste d k (drop i s) 32
+    → e ≡ paste d k (drop i s) recordWidth
 copy-record d s i k h l ea eb ec ee =
     copy-more d s i k 24 8 (omega arith) (omega arith)
     (copy-more d s i k 16 8 (omega arith) (omega arith) (copy-more d s i k 8 8 (omega arith) (omega arith) ea eb) ec) ee
@@ -144,72 +145,72 @@ module _ (s t : List ℕ) (i m j n : ℕ) where
           rw (records-step t i m k, records-step t j n h, merge-right (by (saidIn s)) (recordAt t i) (recordAt t j) (recordsFrom t (i + 1) (m - (i + 1))) ys f)
 
 -- record k was stored: x starts with it, and z is what comes behind
-stored : (u v x z : List ℕ) (k n : ℕ) → k < n → n * 32 ≤ length u → 32 ≤ length x → v ≡ paste u (k * 32) x 32
-    → take ((k + 1) * 32) v ++ (z ++ drop (n * 32) v) ≡ take (k * 32) u ++ ((take 32 x ++ z) ++ drop (n * 32) u)
+stored : (u v x z : List ℕ) (k n : ℕ) → k < n → n * recordWidth ≤ length u → recordWidth ≤ length x → v ≡ paste u (k * recordWidth) x recordWidth
+    → take ((k + 1) * recordWidth) v ++ (z ++ drop (n * recordWidth) v) ≡ take (k * recordWidth) u ++ ((take recordWidth x ++ z) ++ drop (n * recordWidth) u)
 stored u v x z k n h l g e =
-    let r = (n - (k + 1)) * 32 in
-    let ek : (k + 1) * 32 ≡ k * 32 + 32 = omega arith in
-    let en : n * 32 ≡ k * 32 + 32 + r = omega arith in
-    let d : drop (n * 32) v ≡ drop (n * 32) u =
-    rw (e, en, ← drop-drop r (k * 32 + 32) (paste u (k * 32) x 32), drop-paste u (k * 32) x 32 (omega arith) g, drop-drop r (k * 32 + 32) u) in
-    rw (ek, d, e, take-paste u (k * 32) x 32 (omega arith) g, append-assoc (take (k * 32) u) (take 32 x) (z ++ drop (n * 32) u), append-assoc (take 32 x) z (drop (n * 32) u))
+    let r = (n - (k + 1)) * recordWidth in
+    let ek : (k + 1) * recordWidth ≡ k * recordWidth + recordWidth = omega arith in
+    let en : n * recordWidth ≡ k * recordWidth + recordWidth + r = omega arith in
+    let d : drop (n * recordWidth) v ≡ drop (n * recordWidth) u =
+    rw (e, en, ← drop-drop r (k * recordWidth + recordWidth) (paste u (k * recordWidth) x recordWidth), drop-paste u (k * recordWidth) x recordWidth (omega arith) g, drop-drop r (k * recordWidth + recordWidth) u) in
+    rw (ek, d, e, take-paste u (k * recordWidth) x recordWidth (omega arith) g, append-assoc (take (k * recordWidth) u) (take recordWidth x) (z ++ drop (n * recordWidth) u), append-assoc (take recordWidth x) z (drop (n * recordWidth) u))
 
 -- k records are in u, which was z, and what is left leads to the whole
 pub record Turn (s t z : List ℕ) (m : ℕ) (u : List ℕ) (i j k : ℕ) : Type 0 where
-  pub whole : take (k * 32) u ++ (merging s t i m j (length t / 32) ++ drop (length t / 32 * 32) u)
-      ≡ merging s t 0 m m (length t / 32) ++ drop (length t / 32 * 32) z
+  pub whole : take (k * recordWidth) u ++ (merging s t i m j (recordRoom t) ++ drop (recordRoom t * recordWidth) u)
+      ≡ merging s t 0 m m (recordRoom t) ++ drop (recordRoom t * recordWidth) z
   pub count : k + m ≡ i + j
   pub left : i ≤ m
-  pub right : j ≤ length t / 32
+  pub right : j ≤ recordRoom t
   pub size : length u ≡ length z
 
-pub turn-first : (s t z : List ℕ) (m : ℕ) → m ≤ length t / 32 → Turn s t z m z 0 m 0
+pub turn-first : (s t z : List ℕ) (m : ℕ) → m ≤ recordRoom t → Turn s t z m z 0 m 0
 turn-first s t z m h = record { whole = refl; count = omega arith; left = omega arith; right = h; size = refl }
 
 module _ (s t z : List ℕ) (m : ℕ) (u : List ℕ) (i j k : ℕ) (e : Turn s t z m u i j k) where
-  pub turn-last : length t / 32 ≤ k → u ≡ merging s t 0 m m (length t / 32) ++ drop (length t / 32 * 32) z
+  pub turn-last : recordRoom t ≤ k → u ≡ merging s t 0 m m (recordRoom t) ++ drop (recordRoom t * recordWidth) z
   unfolding merging joined
   turn-last h =
-      let ek : k ≡ length t / 32 = omega arith in
-      rw (records-none t i m (omega arith), records-none t j (length t / 32) (omega arith), merge-none (by (saidIn s)) [], ek, take-append-drop) at (e .whole)
+      let ek : k ≡ recordRoom t = omega arith in
+      rw (records-none t i m (omega arith), records-none t j (recordRoom t) (omega arith), merge-none (by (saidIn s)) [], ek, take-append-drop) at (e .whole)
 
   -- f is what the code's test of the heads gave
-  module _ (f : Bool) (g : f ≡ leftFirst s t i m j (length t / 32)) (h : k < length t / 32) where
-    left-is : f ≡ true → (i < m) × (merging s t i m j (length t / 32) ≡ recordAt t i ++ merging s t (i + 1) m j (length t / 32))
-    left-is b = merging-left s t i m j (length t / 32) (sym g ∙ b)
+  module _ (f : Bool) (g : f ≡ leftFirst s t i m j (recordRoom t)) (h : k < recordRoom t) where
+    left-is : f ≡ true → (i < m) × (merging s t i m j (recordRoom t) ≡ recordAt t i ++ merging s t (i + 1) m j (recordRoom t))
+    left-is b = merging-left s t i m j (recordRoom t) (sym g ∙ b)
 
-    right-is : f ≡ false → (j < length t / 32) × (merging s t i m j (length t / 32) ≡ recordAt t j ++ merging s t i m (j + 1) (length t / 32))
-    right-is b = merging-right s t i m j (length t / 32) (omega arith) (sym g ∙ b)
+    right-is : f ≡ false → (j < recordRoom t) × (merging s t i m j (recordRoom t) ≡ recordAt t j ++ merging s t i m (j + 1) (recordRoom t))
+    right-is b = merging-right s t i m j (recordRoom t) (omega arith) (sym g ∙ b)
 
-    pub left-there : m ≤ length t / 32 → f ≡ true → i * 32 + 32 ≤ length t
+    pub left-there : m ≤ recordRoom t → f ≡ true → i * recordWidth + recordWidth ≤ length t
     left-there l b = omega (arith, left-is b .0)
 
-    pub right-there : f ≡ false → j * 32 + 32 ≤ length t
+    pub right-there : f ≡ false → j * recordWidth + recordWidth ≤ length t
     right-there b = omega (arith, right-is b .0)
 
-    module _ (lm : m ≤ length t / 32) (lu : length t / 32 * 32 ≤ length z) (v : List ℕ) where
-      pub turn-left : f ≡ true → v ≡ paste u (k * 32) (drop (i * 32) t) 32 → Turn s t z m v (i + 1) j (k + 1)
+    module _ (lm : m ≤ recordRoom t) (lu : recordRoom t * recordWidth ≤ length z) (v : List ℕ) where
+      pub turn-left : f ≡ true → v ≡ paste u (k * recordWidth) (drop (i * recordWidth) t) recordWidth → Turn s t z m v (i + 1) j (k + 1)
       turn-left b ev =
           let r : i < m = left-is b .0 in
-          let w : 32 ≤ length (drop (i * 32) t) = rw length-drop (omega arith) in
+          let w : recordWidth ≤ length (drop (i * recordWidth) t) = rw length-drop (omega arith) in
           record {
-            whole = stored u v (drop (i * 32) t) (merging s t (i + 1) m j (length t / 32)) k (length t / 32) h (omega arith) w ev ∙ (rw (left-is b .1) at (e .whole));
+            whole = stored u v (drop (i * recordWidth) t) (merging s t (i + 1) m j (recordRoom t)) k (recordRoom t) h (omega arith) w ev ∙ (rw (left-is b .1) at (e .whole));
             count = omega arith;
             left = omega arith;
             right = e .right;
-            size = ap length ev ∙ length-paste u (k * 32) (drop (i * 32) t) 32 (omega arith) w ∙ e .size;
+            size = ap length ev ∙ length-paste u (k * recordWidth) (drop (i * recordWidth) t) recordWidth (omega arith) w ∙ e .size;
           }
 
-      pub turn-right : f ≡ false → v ≡ paste u (k * 32) (drop (j * 32) t) 32 → Turn s t z m v i (j + 1) (k + 1)
+      pub turn-right : f ≡ false → v ≡ paste u (k * recordWidth) (drop (j * recordWidth) t) recordWidth → Turn s t z m v i (j + 1) (k + 1)
       turn-right b ev =
-          let r : j < length t / 32 = right-is b .0 in
-          let w : 32 ≤ length (drop (j * 32) t) = rw length-drop (omega arith) in
+          let r : j < recordRoom t = right-is b .0 in
+          let w : recordWidth ≤ length (drop (j * recordWidth) t) = rw length-drop (omega arith) in
           record {
-            whole = stored u v (drop (j * 32) t) (merging s t i m (j + 1) (length t / 32)) k (length t / 32) h (omega arith) w ev ∙ (rw (right-is b .1) at (e .whole));
+            whole = stored u v (drop (j * recordWidth) t) (merging s t i m (j + 1) (recordRoom t)) k (recordRoom t) h (omega arith) w ev ∙ (rw (right-is b .1) at (e .whole));
             count = omega arith;
             left = e .left;
             right = omega arith;
-            size = ap length ev ∙ length-paste u (k * 32) (drop (j * 32) t) 32 (omega arith) w ∙ e .size;
+            size = ap length ev ∙ length-paste u (k * recordWidth) (drop (j * recordWidth) t) recordWidth (omega arith) w ∙ e .size;
           }
 
 pub ruleset merge-laws = (turn-first, turn-last)

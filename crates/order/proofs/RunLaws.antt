@@ -1,5 +1,5 @@
 -- Laws of the runs of a buffer.
-use Prim.Native.Nat.{ℕ, suc, _+_, _-_, _*_, _/_, _≤_, _<_}
+use Prim.Native.Nat.{ℕ, suc, _+_, _-_, _*_, _≤_, _<_}
 use native.Mathlib.Nat.{add-zero, zero-add}
 use native.Mathlib.Numerals.{add-one}
 use native.Mathlib.Omega.{arith}
@@ -12,7 +12,8 @@ use Rattle.decimal.specs.declared.Decimal.{Decimal}
 use Rattle.decimal.specs.declared.Value.{Value}
 use Rattle.decimal.specs.declared.Value.the-variants.{Known, Refused}
 use Rattle.row.specs.declared.table.Row.{Row}
-use Rattle.row.specs.Row.{rowIn}
+use Rattle.row.specs.Row.{fieldsIn}
+use Rattle.order.specs.Records.{recordWidth, recordRoom}
 use Rattle.order.specs.declared.runs.Counted.{Counted}
 use Rattle.order.specs.declared.compare.Order.{Order}
 use Rattle.order.specs.declared.compare.Order.the-variants.{Before, Same, After}
@@ -28,29 +29,29 @@ use Rattle.order.proofs.SumLaws.{valueIn}
 
 -- where the row of a record's bytes starts
 abbrev pub placeIn : List ℕ → ℕ
-placeIn b = rowIn b .start
+placeIn b = fieldsIn b .start
 
 -- ---- the loop: records i to j are alike
 
-module _ (s t : List ℕ) (i j : ℕ) (v : runEnd s t i ≡ j + leading (by (saidIn s)) (recordAt t i) (recordsFrom t j (length t / 32 - j))) where
-  pub run-done : length t / 32 ≤ j → j ≡ runEnd s t i
+module _ (s t : List ℕ) (i j : ℕ) (v : runEnd s t i ≡ j + leading (by (saidIn s)) (recordAt t i) (recordsFrom t j (recordRoom t - j))) where
+  pub run-done : recordRoom t ≤ j → j ≡ runEnd s t i
   unfolding leading
-  run-done h = sym (v ∙ rw (records-none t j (length t / 32) h, add-zero))
+  run-done h = sym (v ∙ rw (records-none t j (recordRoom t) h, add-zero))
 
-  module _ (h : j < length t / 32) (o : Order) (e : o ≡ orderOf (saidIn s (recordAt t i)) (saidIn s (recordAt t j))) where
+  module _ (h : j < recordRoom t) (o : Order) (e : o ≡ orderOf (saidIn s (recordAt t i)) (saidIn s (recordAt t j))) where
     pub run-before : o ≡ Before → j ≡ runEnd s t i
     unfolding leading
-    run-before f = sym (v ∙ rw (records-step t j (length t / 32) h, alike-before (saidIn s) (recordAt t i) (recordAt t j) (sym e ∙ f), add-zero))
+    run-before f = sym (v ∙ rw (records-step t j (recordRoom t) h, alike-before (saidIn s) (recordAt t i) (recordAt t j) (sym e ∙ f), add-zero))
 
     pub run-after : o ≡ After → j ≡ runEnd s t i
     unfolding leading
-    run-after f = sym (v ∙ rw (records-step t j (length t / 32) h, alike-after (saidIn s) (recordAt t i) (recordAt t j) (sym e ∙ f), add-zero))
+    run-after f = sym (v ∙ rw (records-step t j (recordRoom t) h, alike-after (saidIn s) (recordAt t i) (recordAt t j) (sym e ∙ f), add-zero))
 
-    pub run-on : o ≡ Same → runEnd s t i ≡ j + 1 + leading (by (saidIn s)) (recordAt t i) (recordsFrom t (j + 1) (length t / 32 - (j + 1)))
+    pub run-on : o ≡ Same → runEnd s t i ≡ j + 1 + leading (by (saidIn s)) (recordAt t i) (recordsFrom t (j + 1) (recordRoom t - (j + 1)))
     unfolding leading
-    run-on f = v ∙ rw (records-step t j (length t / 32) h, alike-same (saidIn s) (recordAt t i) (recordAt t j) (sym e ∙ f)) (omega arith)
+    run-on f = v ∙ rw (records-step t j (recordRoom t) h, alike-same (saidIn s) (recordAt t i) (recordAt t j) (sym e ∙ f)) (omega arith)
 
-pub run-start : (s t : List ℕ) (i : ℕ) → runEnd s t i ≡ i + 1 + leading (by (saidIn s)) (recordAt t i) (recordsFrom t (i + 1) (length t / 32 - (i + 1)))
+pub run-start : (s t : List ℕ) (i : ℕ) → runEnd s t i ≡ i + 1 + leading (by (saidIn s)) (recordAt t i) (recordsFrom t (i + 1) (recordRoom t - (i + 1)))
 unfolding runEnd
 run-start s t i = refl
 
@@ -67,16 +68,16 @@ leading-few le x (y ∷ ys) = go (alike le x y) (leading-few le x ys)
     go true h = omega arith
     go false h = omega arith
 
-pub part-records : (t : List ℕ) (i e : ℕ) → i ≤ e → e * 32 ≤ length t → recordsOf (take (e * 32 - i * 32) (drop (i * 32) t)) ≡ recordsFrom t i (e - i)
+pub part-records : (t : List ℕ) (i e : ℕ) → i ≤ e → e * recordWidth ≤ length t → recordsOf (take (e * recordWidth - i * recordWidth) (drop (i * recordWidth) t)) ≡ recordsFrom t i (e - i)
 part-records t i e h l =
     let rs = recordsFrom t i (e - i) in
     let w = records-wide t i (e - i) (omega arith) in
-    let k : e * 32 - i * 32 ≡ (e - i) * 32 = omega arith in
-    let n : length (joined rs) / 32 ≡ length rs = omega (arith, length-joined rs w) in
+    let k : e * recordWidth - i * recordWidth ≡ (e - i) * recordWidth = omega arith in
+    let n : recordRoom (joined rs) ≡ length rs = omega (arith, length-joined rs w) in
     rw (k, ← joined-records t i (e - i), n) (rw append-nil at (records-joined rs [] [] 0 w refl))
 
-pub run-summed : (t : List ℕ) (i e : ℕ) (r : Value) → i < e → e ≤ length t / 32
-    → r ≡ summed (map valueIn (recordsOf (take (e * 32 - i * 32) (drop (i * 32) t)))) → r ≡ summed (map valueIn (recordsFrom t i (e - i)))
+pub run-summed : (t : List ℕ) (i e : ℕ) (r : Value) → i < e → e ≤ recordRoom t
+    → r ≡ summed (map valueIn (recordsOf (take (e * recordWidth - i * recordWidth) (drop (i * recordWidth) t)))) → r ≡ summed (map valueIn (recordsFrom t i (e - i)))
 run-summed t i e r h l f = f ∙ ap (λ (rs : List (List ℕ)). summed (map valueIn rs)) (part-records t i e (omega arith) (omega arith))
 
 pub ruleset part-laws = (run-summed)
@@ -93,9 +94,9 @@ drop-records t i m k h =
 
 -- ---- a run of an ordered buffer has all records that are like its first, and the other runs follow
 
-module _ (s t : List ℕ) (i : ℕ) (h : i < length t / 32) (o : Ordered (by (saidIn s)) (recordsFrom t i (length t / 32 - i))) where
+module _ (s t : List ℕ) (i : ℕ) (h : i < recordRoom t) (o : Ordered (by (saidIn s)) (recordsFrom t i (recordRoom t - i))) where
   left : ℕ
-  left = length t / 32 - (i + 1)
+  left = recordRoom t - (i + 1)
 
   rest : List (List ℕ)
   rest = recordsFrom t (i + 1) left
@@ -107,9 +108,9 @@ module _ (s t : List ℕ) (i : ℕ) (h : i < length t / 32) (o : Ordered (by (sa
   unfolding behind rest
   few = omega (arith, leading-few (by (saidIn s)) (recordAt t i) rest, length-records t (i + 1) left)
 
-  first-rest : recordsFrom t i (length t / 32 - i) ≡ recordAt t i ∷ rest
+  first-rest : recordsFrom t i (recordRoom t - i) ≡ recordAt t i ∷ rest
   unfolding rest left
-  first-rest = records-step t i (length t / 32) h
+  first-rest = records-step t i (recordRoom t) h
 
   ends : runEnd s t i ≡ i + 1 + behind
   unfolding runEnd behind rest left
@@ -118,7 +119,7 @@ module _ (s t : List ℕ) (i : ℕ) (h : i < length t / 32) (o : Ordered (by (sa
   ordered : Ordered (by (saidIn s)) (recordAt t i ∷ rest)
   ordered = rw first-rest at o
 
-  pub run-group : those (alike (by (saidIn s)) (recordAt t i)) (recordsFrom t i (length t / 32 - i)) ≡ recordsFrom t i (runEnd s t i - i)
+  pub run-group : those (alike (by (saidIn s)) (recordAt t i)) (recordsFrom t i (recordRoom t - i)) ≡ recordsFrom t i (runEnd s t i - i)
   unfolding behind rest
   run-group =
       let e : i + 1 + behind - (i + 1) ≡ behind = omega arith in
@@ -131,18 +132,18 @@ module _ (s t : List ℕ) (i : ℕ) (h : i < length t / 32) (o : Ordered (by (sa
         e,
       )
 
-  pub runs-follow : heads (by (saidIn s)) (recordsFrom t i (length t / 32 - i))
-      ≡ recordAt t i ∷ heads (by (saidIn s)) (recordsFrom t (runEnd s t i) (length t / 32 - runEnd s t i))
+  pub runs-follow : heads (by (saidIn s)) (recordsFrom t i (recordRoom t - i))
+      ≡ recordAt t i ∷ heads (by (saidIn s)) (recordsFrom t (runEnd s t i) (recordRoom t - runEnd s t i))
   unfolding behind rest left
   runs-follow =
-      let e : length t / 32 - (i + 1 + behind) ≡ left - behind = omega arith in
+      let e : recordRoom t - (i + 1 + behind) ≡ left - behind = omega arith in
       rw (first-rest, run-heads (by (saidIn s)) (by-either (saidIn s)) (by-through (saidIn s)) (recordAt t i) rest ordered, drop-records t (i + 1) left behind few, ends, e)
 
   -- behind the run
-  dropped : drop (leading (by (saidIn s)) (recordAt t i) rest) rest ≡ recordsFrom t (runEnd s t i) (length t / 32 - runEnd s t i)
+  dropped : drop (leading (by (saidIn s)) (recordAt t i) rest) rest ≡ recordsFrom t (runEnd s t i) (recordRoom t - runEnd s t i)
   unfolding behind rest left
   dropped =
-      let e : length t / 32 - (i + 1 + behind) ≡ left - behind = omega arith in
+      let e : recordRoom t - (i + 1 + behind) ≡ left - behind = omega arith in
       rw (ends, e) (drop-records t (i + 1) left behind few)
 
   -- the run with what is before it
@@ -152,7 +153,7 @@ module _ (s t : List ℕ) (i : ℕ) (h : i < length t / 32) (o : Ordered (by (sa
       let e : i + 1 + behind ≡ i + suc behind = omega arith in
       rw (ends, e, records-add t 0 i (suc behind), zero-add, ← add-one i, ← take-records t (i + 1) left behind few)
 
-  pub ordered-there : Ordered (by (saidIn s)) (recordsFrom t (runEnd s t i) (length t / 32 - runEnd s t i))
+  pub ordered-there : Ordered (by (saidIn s)) (recordsFrom t (runEnd s t i) (recordRoom t - runEnd s t i))
   ordered-there = rw (← dropped) (ordered-drop (by (saidIn s)) (by-either (saidIn s)) (by-through (saidIn s)) (leading (by (saidIn s)) (recordAt t i) rest) rest (ordered .1))
 
   -- none of the records before is like one that record i may precede
@@ -161,54 +162,54 @@ module _ (s t : List ℕ) (i : ℕ) (h : i < length t / 32) (o : Ordered (by (sa
         → itemOf (saidIn s) (recordsOf t) (recordAt t i) ≡ record { first = recordAt t i; count = runEnd s t i - i; sum = v }
     unfolding itemOf said
     item-there v ev =
-        let e : length t / 32 ≡ i + (length t / 32 - i) = omega arith in
+        let e : recordRoom t ≡ i + (recordRoom t - i) = omega arith in
         let q : those (alike (by (saidIn s)) (recordAt t i)) (recordsOf t) ≡ recordsFrom t i (runEnd s t i - i) =
         ap (λ (n : ℕ). those (alike (by (saidIn s)) (recordAt t i)) (recordsFrom t 0 n)) e
-        ∙ rw (records-add t 0 i (length t / 32 - i), zero-add)
-        (all-in-run (by (saidIn s)) (by-either (saidIn s)) (by-through (saidIn s)) (recordAt t i) (recordsFrom t 0 i) (recordsFrom t i (length t / 32 - i)) f ∙ run-group) in
+        ∙ rw (records-add t 0 i (recordRoom t - i), zero-add)
+        (all-in-run (by (saidIn s)) (by-either (saidIn s)) (by-through (saidIn s)) (recordAt t i) (recordsFrom t 0 i) (recordsFrom t i (recordRoom t - i)) f ∙ run-group) in
         rw (q, ev, length-records)
 
-    pub fresh-there : runEnd s t i < length t / 32
+    pub fresh-there : runEnd s t i < recordRoom t
         → Fresh (by (saidIn s)) (by-either (saidIn s)) (by-through (saidIn s)) (recordAt t (runEnd s t i)) (recordsFrom t 0 (runEnd s t i))
     fresh-there l =
         let e = runEnd s t i in
         rw passed
         (fresh-run (by (saidIn s)) (by-either (saidIn s)) (by-through (saidIn s)) (recordAt t i) (recordAt t e) (recordsFrom t 0 i) rest
-        (recordsFrom t (e + 1) (length t / 32 - (e + 1))) ordered (dropped ∙ records-step t e (length t / 32) l) f)
+        (recordsFrom t (e + 1) (recordRoom t - (e + 1))) ordered (dropped ∙ records-step t e (recordRoom t) l) f)
 
 -- ---- the pass: k runs were passed, and record i starts the next; a is what all of them come to
 
 pub record Pass (s t : List ℕ) (a : Counted) (i k : ℕ) : Type 0 where
-  pub whole : a ≡ counted placeIn k (map (itemOf (saidIn s) (recordsOf t)) (heads (by (saidIn s)) (recordsFrom t i (length t / 32 - i))))
-  pub ordered : Ordered (by (saidIn s)) (recordsFrom t i (length t / 32 - i))
-  pub fresh : i < length t / 32 → Fresh (by (saidIn s)) (by-either (saidIn s)) (by-through (saidIn s)) (recordAt t i) (recordsFrom t 0 i)
+  pub whole : a ≡ counted placeIn k (map (itemOf (saidIn s) (recordsOf t)) (heads (by (saidIn s)) (recordsFrom t i (recordRoom t - i))))
+  pub ordered : Ordered (by (saidIn s)) (recordsFrom t i (recordRoom t - i))
+  pub fresh : i < recordRoom t → Fresh (by (saidIn s)) (by-either (saidIn s)) (by-through (saidIn s)) (recordAt t i) (recordsFrom t 0 i)
   pub few : k ≤ i
-  pub within : i ≤ length t / 32
+  pub within : i ≤ recordRoom t
 
 pub pass-first : (s t : List ℕ) → Ordered (by (saidIn s)) (recordsOf t) → Pass s t (counted placeIn 0 (listed (saidIn s) (recordsOf t))) 0 0
 unfolding listed those recordsFrom
 pass-first s t o =
-    let e : length t / 32 - 0 ≡ length t / 32 = omega arith in
+    let e : recordRoom t - 0 ≡ recordRoom t = omega arith in
     record { whole = rw e; ordered = rw e o; fresh = λ h z l. refl; few = omega arith; within = omega arith }
 
 module _ (s t : List ℕ) (a : Counted) (i k : ℕ) (p : Pass s t a i k) where
-  pub pass-last : length t / 32 ≤ i → Counted.Items k ≡ a
+  pub pass-last : recordRoom t ≤ i → Counted.Items k ≡ a
   unfolding heads counted
-  pass-last h = sym (p .whole ∙ rw (records-none t i (length t / 32) h))
+  pass-last h = sym (p .whole ∙ rw (records-none t i (recordRoom t) h))
 
   -- the run at i goes to e, and has the sum v
-  module _ (h : i < length t / 32) (e : ℕ) (ee : e ≡ runEnd s t i) (v : Value) (ev : v ≡ summed (map valueIn (recordsFrom t i (e - i)))) where
-    pass-run : a ≡ cond (isKnown v) (counted placeIn (k + 1) (map (itemOf (saidIn s) (recordsOf t)) (heads (by (saidIn s)) (recordsFrom t e (length t / 32 - e)))))
-        (Counted.Large (rowIn (recordAt t i) .start))
+  module _ (h : i < recordRoom t) (e : ℕ) (ee : e ≡ runEnd s t i) (v : Value) (ev : v ≡ summed (map valueIn (recordsFrom t i (e - i)))) where
+    pass-run : a ≡ cond (isKnown v) (counted placeIn (k + 1) (map (itemOf (saidIn s) (recordsOf t)) (heads (by (saidIn s)) (recordsFrom t e (recordRoom t - e)))))
+        (Counted.Large (fieldsIn (recordAt t i) .start))
     unfolding counted
     pass-run =
         p .whole ∙ rw (runs-follow s t i h (p .ordered), item-there s t i h (p .ordered) (p .fresh h) v (rw ee at ev), ee)
 
-    pub pass-large : (n : ℕ) (r : Row) → v ≡ Refused n → r ≡ rowIn (recordAt t i) → Counted.Large (r .start) ≡ a
+    pub pass-large : (n : ℕ) (r : Row) → v ≡ Refused n → r ≡ fieldsIn (recordAt t i) → Counted.Large (r .start) ≡ a
     unfolding isKnown
     pass-large n r f g = sym (pass-run ∙ rw (f, g))
 
-    pub pass-on : (d : Decimal) → v ≡ Known d → i < e → e ≤ length t / 32 → Pass s t a e (k + 1)
+    pub pass-on : (d : Decimal) → v ≡ Known d → i < e → e ≤ recordRoom t → Pass s t a e (k + 1)
     unfolding isKnown
     pass-on d f l m =
         record {

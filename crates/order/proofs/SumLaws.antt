@@ -1,5 +1,5 @@
 -- Laws of the exact sum.
-use Prim.Native.Nat.{ℕ, _+_, _-_, _*_, _/_, _^_, _≤_, _<_}
+use Prim.Native.Nat.{ℕ, _+_, _-_, _*_, _^_, _≤_, _<_}
 use native.Mathlib.Omega.{arith}
 use native.Mathlib.Nat.{sub-zero}
 use mathlib.Core.Path.{_≡_, sym, ap, _∙_}
@@ -15,7 +15,8 @@ use Rattle.decimal.specs.steps.Judged.{judgedOf, total}
 use Rattle.decimal.proofs.Laws.{exact-large, ones-is}
 use Rattle.decimal.proofs.Whole.{total-met}
 use Rattle.row.specs.declared.table.Row.{Row}
-use Rattle.row.specs.Row.{rowIn}
+use Rattle.row.specs.Row.{fieldsIn}
+use Rattle.order.specs.Records.{recordRoom}
 use Rattle.order.specs.declared.sum.Wide.{Wide}
 use Rattle.order.specs.Sorted.{recordAt, recordsFrom, recordsOf}
 use Rattle.order.specs.Sums.{wholeFrom, sumOf, summed}
@@ -24,7 +25,7 @@ use Rattle.order.proofs.RecordLaws.{records-step, records-none}
 
 -- the value in a record's bytes
 abbrev pub valueIn : List ℕ → ℤ
-valueIn b = wholeFrom (rowIn b .bits)
+valueIn b = wholeFrom (fieldsIn b .bits)
 
 -- ---- the number held in two words
 
@@ -111,15 +112,15 @@ pub ruleset held-laws = (held-up, held-down, far-up, far-down, just-down)
 -- ---- the loop: w holds the sum of the values of the records before record i
 
 pub record Summing (t : List ℕ) (w : Wide) (i : ℕ) : Type 0 where
-  pub whole : sumOf (map valueIn (recordsOf t)) ≡ held (length t / 32) w +ℤ sumOf (map valueIn (recordsFrom t i (length t / 32 - i)))
-  pub most : w .high ≤ length t / 32 + i
-  pub least : length t / 32 ≤ w .high + i
-  pub within : i ≤ length t / 32
+  pub whole : sumOf (map valueIn (recordsOf t)) ≡ held (recordRoom t) w +ℤ sumOf (map valueIn (recordsFrom t i (recordRoom t - i)))
+  pub most : w .high ≤ recordRoom t + i
+  pub least : recordRoom t ≤ w .high + i
+  pub within : i ≤ recordRoom t
 
-pub sum-start : (t : List ℕ) (w : Wide) → w .high ≡ length t / 32 → w .low ≡ 0 → Summing t w 0
+pub sum-start : (t : List ℕ) (w : Wide) → w .high ≡ recordRoom t → w .low ≡ 0 → Summing t w 0
 unfolding held size
 sum-start t w h l =
-    let n = length t / 32 in
+    let n = recordRoom t in
     let e : size w ≡ n * 18446744073709551616 = omega arith in
     let v = sumOf (map valueIn (recordsFrom t 0 n)) in
     record {
@@ -131,24 +132,24 @@ sum-start t w h l =
     }
 
 module _ (t : List ℕ) (w : Wide) (i : ℕ) (e : Summing t w i) where
-  pub sum-end : (r : Value) (c : ℕ) → length t / 32 ≤ i → c ≡ length t / 32 → r ≡ exactly (held c w) 1 → r ≡ summed (map valueIn (recordsOf t))
+  pub sum-end : (r : Value) (c : ℕ) → recordRoom t ≤ i → c ≡ recordRoom t → r ≡ exactly (held c w) 1 → r ≡ summed (map valueIn (recordsOf t))
   unfolding summed sumOf
-  sum-end r c h f k = (rw f at k) ∙ ap (λ (z : ℤ). exactly z 1) (sym (e .whole ∙ rw (records-none t i (length t / 32) h) (+ℤ-idr (held (length t / 32) w))))
+  sum-end r c h f k = (rw f at k) ∙ ap (λ (z : ℤ). exactly z 1) (sym (e .whole ∙ rw (records-none t i (recordRoom t) h) (+ℤ-idr (held (recordRoom t) w))))
 
-  module _ (h : i < length t / 32) (b : Row) (eb : b ≡ rowIn (recordAt t i)) (n : ℕ) (en : n ≡ b .bits) where
+  module _ (h : i < recordRoom t) (b : Row) (eb : b ≡ fieldsIn (recordAt t i)) (n : ℕ) (en : n ≡ b .bits) where
     value-there : (z : ℤ) → wholeFrom n ≡ z
-        → sumOf (map valueIn (recordsOf t)) ≡ held (length t / 32) w +ℤ (z +ℤ sumOf (map valueIn (recordsFrom t (i + 1) (length t / 32 - (i + 1)))))
+        → sumOf (map valueIn (recordsOf t)) ≡ held (recordRoom t) w +ℤ (z +ℤ sumOf (map valueIn (recordsFrom t (i + 1) (recordRoom t - (i + 1)))))
     unfolding sumOf
     value-there z ez =
         let v : valueIn (recordAt t i) ≡ z = rw (← eb, ← en) ez in
-        e .whole ∙ rw (records-step t i (length t / 32) h, v)
+        e .whole ∙ rw (records-step t i (recordRoom t) h, v)
 
     module _ (r : Wide) where
       pub sum-plus : n < 9223372036854775808 → (size r ≡ size w + n) × (w .high ≤ r .high) × (r .high ≤ w .high + 1) → Summing t r (i + 1)
       unfolding wholeFrom
       sum-plus l k =
           record {
-            whole = value-there (pos n) (rw (lt-ltb n 9223372036854775808 l)) ∙ held-plus (length t / 32) w r n _ (k .0);
+            whole = value-there (pos n) (rw (lt-ltb n 9223372036854775808 l)) ∙ held-plus (recordRoom t) w r n _ (k .0);
             most = omega arith;
             least = omega arith;
             within = omega arith;
@@ -159,7 +160,7 @@ module _ (t : List ℕ) (w : Wide) (i : ℕ) (e : Summing t w i) where
       sum-less b l k =
           let x : 18446744073709551616 - n ≡ 18446744073709551615 - n + 1 = omega arith in
           record {
-            whole = value-there (negℤ (pos (18446744073709551615 - n + 1))) (rw (le-ltb n 9223372036854775808 l, x)) ∙ held-less (length t / 32) w r (18446744073709551615 - n + 1) _ (k .0);
+            whole = value-there (negℤ (pos (18446744073709551615 - n + 1))) (rw (le-ltb n 9223372036854775808 l, x)) ∙ held-less (recordRoom t) w r (18446744073709551615 - n + 1) _ (k .0);
             most = omega arith;
             least = omega arith;
             within = omega arith;

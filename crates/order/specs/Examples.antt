@@ -8,7 +8,7 @@ use Rattle.decimal.specs.Exact.{decimalOf, exact, exactly, twosOf}
 use Rattle.decimal.specs.declared.Value.{Value}
 use Rattle.decimal.specs.declared.Value.the-variants.{Known}
 use Rattle.text.specs.Bytes.{bytes}
-use Rattle.row.specs.Row.{rowOf, rowBytes, rowIn}
+use Rattle.row.specs.Row.{rowOf, fieldBytes, fieldsIn}
 use Rattle.access.specs.Spans.{goodSpan, spanText}
 use Rattle.order.specs.declared.compare.Order.{Order}
 use Rattle.order.specs.declared.compare.Order.the-variants.{Before, Same, After}
@@ -34,11 +34,11 @@ pairs-ordered = refl
 
 -- postings to the accounts A, at 0, and B, at 1, in the currency at 2, with their lines
 abbrev posting : ℕ → ℕ → ℤ → List ℕ
-posting a l v = rowBytes (rowOf 50 a (a + 1) l 2 5 v)
+posting a l v = fieldBytes (rowOf 50 a (a + 1) l 2 5 v)
 
 -- B's running sum is too large, its sum is not; its record is its first one. A comes first
 pub items-listed :
-    map {B = ℕ × ℕ × Value} (λ i. (rowIn (i .first) .line, i .count, i .sum))
+    map {B = ℕ × ℕ × Value} (λ i. (fieldsIn (i .first) .line, i .count, i .sum))
     (items (saidIn (bytes "ABCHF"))
     (posting 1 7 (pos 999999999999999)
     ∷ posting 0 8 (pos 2)
@@ -46,5 +46,5 @@ pub items-listed :
     ∷ posting 1 10 (negsuc 999999999999998)
     ∷ []))
     ≡ (8, 1, Known (record { minus = false; size = 2 })) ∷ (7, 3, Known (record { minus = false; size = 999999999999999 })) ∷ []
-unfolding bytes texts _next_ numbers said orderOf upTo mayPrecede insert sorted wholeFrom sumOf summed those alike heads itemOf listed items rowOf rowBytes rowIn twosOf goodSpan spanText decimalOf exact exactly
+unfolding bytes texts _next_ numbers said orderOf upTo mayPrecede insert sorted wholeFrom sumOf summed those alike heads itemOf listed items rowOf fieldBytes fieldsIn twosOf goodSpan spanText decimalOf exact exactly
 items-listed = refl

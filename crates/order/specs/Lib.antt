@@ -1,4 +1,5 @@
 pub mod Sums
+pub mod Records
 pub mod Order
 pub mod Sorted
 pub mod Groups

@@ -6,7 +6,7 @@ use mathlib.Core.List.{List, [], _∷_}
 use lib.Dec.{ltb}
 use lib.IntN.{ℤ}
 use Rattle.row.specs.declared.table.Row.{Row}
-use Rattle.row.specs.Row.{rowIn}
+use Rattle.row.specs.Row.{fieldsIn}
 use Rattle.access.specs.Spans.{spanText}
 use Rattle.order.specs.declared.compare.Order.{Order}
 use Rattle.order.specs.declared.compare.Order.the-variants.{Before, Same, After}
@@ -46,9 +46,9 @@ said s r =
       value = wholeFrom (r .bits);
     }
 
--- the same of a row's 32 bytes
+-- the same of a record's bytes
 abbrev pub saidIn : List ℕ → List ℕ → Said
-saidIn s b = said s (rowIn b)
+saidIn s b = said s (fieldsIn b)
 
 -- the value does not count
 unfoldable pub orderOf : Said → Said → Order

@@ -1,10 +1,11 @@
 -- The records of a buffer, and the buffer when they are sorted: equal ones stay as they stood.
-use Prim.Native.Nat.{ℕ, zero, suc, _*_, _/_}
+use Prim.Native.Nat.{ℕ, zero, suc, _*_}
 use mathlib.Core.Path.{_≡_}
 use mathlib.Core.Bool.{Bool, true, cond}
 use mathlib.Core.List.{List, [], _∷_, _++_}
 use lib.ListN.{length, take, drop}
 use Rattle.order.specs.Order.{saidIn, by}
+use Rattle.order.specs.Records.{recordWidth, recordRoom}
 
 -- one goes before the first that it may precede
 unfoldable pub insert : {A : Type 0} → (A → A → Bool) → A → List A → List A
@@ -26,14 +27,14 @@ Ordered le (x ∷ xs) = Leads le x xs × Ordered le xs
 
 -- record i, the n records from record i on, and all of a buffer
 abbrev pub recordAt : List ℕ → ℕ → List ℕ
-recordAt t i = take 32 (drop (i * 32) t)
+recordAt t i = take recordWidth (drop (i * recordWidth) t)
 
 unfoldable pub recordsFrom : List ℕ → ℕ → ℕ → List (List ℕ)
 recordsFrom t i zero = []
 recordsFrom t i (suc n) = recordAt t i ∷ recordsFrom t (suc i) n
 
 abbrev pub recordsOf : List ℕ → List (List ℕ)
-recordsOf t = recordsFrom t 0 (length t / 32)
+recordsOf t = recordsFrom t 0 (recordRoom t)
 
 unfoldable pub joined : List (List ℕ) → List ℕ
 joined [] = []
@@ -41,4 +42,4 @@ joined (r ∷ rs) = r ++ joined rs
 
 -- every byte of a buffer afterwards: what is past the last whole record is as it was
 unfoldable pub sortedBytes : List ℕ → List ℕ → List ℕ
-sortedBytes s t = joined (sorted (by (saidIn s)) (recordsOf t)) ++ drop (length t / 32 * 32) t
+sortedBytes s t = joined (sorted (by (saidIn s)) (recordsOf t)) ++ drop (recordRoom t * recordWidth) t

@@ -1,13 +1,14 @@
 // The order of texts and of records.
+use crate::record::RECORD;
 use access::span;
 use row::table;
 use row::table::Row;
-use row::table::WIDTH;
 ghost use mathlib.Core.Path.{_≡_};
 ghost use mathlib.Core.Bool.{true};
 ghost use Prim.Native.Nat.{_+_, _*_, _≤_};
 ghost use lib.ListN.{length, drop};
-ghost use Rattle.row.specs.Row.{rowIn};
+ghost use Rattle.row.specs.Row.{fieldsIn};
+ghost use Rattle.order.specs.Records.{recordWidth};
 ghost use Rattle.access.specs.Spans.{spanText};
 ghost use Rattle.order.specs.Order.{texts, saidIn, orderOf};
 ghost use Rattle.order.specs.Sorted.{recordAt};
@@ -87,16 +88,16 @@ fn span_order(s: &[u8], a: usize, b: usize, c: usize, d: usize) -> Order
 
 // The row of record i of a buffer.
 pub fn row_at(t: &[u8], i: usize) -> Row
-    requires { ⌜ i * 32 + 32 ≤ length (now t) ⌝ }
-    ensures { λ r. ⌜ r ≡ rowIn (recordAt (now (t .entry)) i) ⌝ }
+    requires { ⌜ i * recordWidth + recordWidth ≤ length (now t) ⌝ }
+    ensures { λ r. ⌜ r ≡ fieldsIn (recordAt (now (t .entry)) i) ⌝ }
 {
-    let at = i * WIDTH;
-    table::row_in(&t[at..at + WIDTH])
+    let at = i * RECORD;
+    table::fields_in(&t[at..at + RECORD])
 }
 
 // The order of two records of a buffer, by their numbers.
 pub fn record_order(s: &[u8], t: &[u8], i: usize, j: usize) -> Order
-    requires { ⌜ (i * 32 + 32 ≤ length (now t)) × (j * 32 + 32 ≤ length (now t)) ⌝ }
+    requires { ⌜ (i * recordWidth + recordWidth ≤ length (now t)) × (j * recordWidth + recordWidth ≤ length (now t)) ⌝ }
     ensures { λ r. ⌜ r ≡ orderOf (saidIn (now (s .entry)) (recordAt (now (t .entry)) i)) (saidIn (now (s .entry)) (recordAt (now (t .entry)) j)) ⌝ }
 {
     let a = row_at(t, i);

@@ -1,14 +1,15 @@
 // Runs of records with the same key in a sorted buffer.
 use crate::compare;
 use crate::compare::Order;
+use crate::record::RECORD;
 use crate::sum;
 use decimal::Value;
-use row::table::WIDTH;
 ghost use mathlib.Core.Path.{_≡_};
 ghost use mathlib.Core.List.{map};
 ghost use Prim.Native.Nat.{_-_, _/_, _<_, _≤_};
 ghost use lib.ListN.{length};
-ghost use Rattle.row.specs.Row.{rowIn};
+ghost use Rattle.row.specs.Row.{fieldsIn};
+ghost use Rattle.order.specs.Records.{recordRoom};
 ghost use Rattle.order.specs.Sorted.{Ordered, recordsFrom, recordsOf};
 ghost use Rattle.order.specs.Sums.{wholeFrom, summed};
 ghost use Rattle.order.specs.Order.{saidIn, by};
@@ -23,11 +24,11 @@ pub struct Run {
 
 // The number of the first record behind record i that has another key.
 fn run_end(s: &[u8], t: &[u8], i: usize) -> usize
-    requires { ⌜ i < length (now t) / 32 ⌝ }
+    requires { ⌜ i < recordRoom (now t) ⌝ }
     ensures end { λ r. ⌜ r ≡ runEnd (now (s .entry)) (now (t .entry)) i ⌝ }
-    ensures within { λ r. ⌜ (i < r) × (r ≤ length (now (t .entry)) / 32) ⌝ }
+    ensures within { λ r. ⌜ (i < r) × (r ≤ recordRoom (now (t .entry))) ⌝ }
 {
-    let n = t.len() / WIDTH;
+    let n = t.len() / RECORD;
     let mut j = i + 1;
     while j < n {
         let o = compare::record_order(s, t, i, j);
@@ -48,15 +49,15 @@ fn run_end(s: &[u8], t: &[u8], i: usize) -> usize
 
 // The run that starts with record i.
 pub fn run_at(s: &[u8], t: &[u8], i: usize) -> Run
-    requires { ⌜ i < length (now t) / 32 ⌝ }
+    requires { ⌜ i < recordRoom (now t) ⌝ }
     ensures end { λ r. ⌜ r .end ≡ runEnd (now (s .entry)) (now (t .entry)) i ⌝ }
-    ensures within { λ r. ⌜ (i < r .end) × (r .end ≤ length (now (t .entry)) / 32) ⌝ }
-    ensures sum { λ r. ⌜ r .sum ≡ summed (map (λ y. wholeFrom (rowIn y .bits)) (recordsFrom (now (t .entry)) i (r .end - i))) ⌝ }
+    ensures within { λ r. ⌜ (i < r .end) × (r .end ≤ recordRoom (now (t .entry))) ⌝ }
+    ensures sum { λ r. ⌜ r .sum ≡ summed (map (λ y. wholeFrom (fieldsIn y .bits)) (recordsFrom (now (t .entry)) i (r .end - i))) ⌝ }
 {
     let end = run_end(s, t, i);
     Run {
         end,
-        sum: sum::sum(&t[i * WIDTH..end * WIDTH]),
+        sum: sum::sum(&t[i * RECORD..end * RECORD]),
     }
 }
 
@@ -69,9 +70,9 @@ pub enum Counted {
 // The items of a sorted buffer, one for each run.
 pub fn count_runs(s: &[u8], t: &[u8]) -> Counted
     requires { ⌜ Ordered (by (saidIn (now s))) (recordsOf (now t)) ⌝ }
-    ensures { λ r. ⌜ r ≡ counted (λ b. rowIn b .start) 0 (listed (saidIn (now (s .entry))) (recordsOf (now (t .entry)))) ⌝ }
+    ensures { λ r. ⌜ r ≡ counted (λ b. fieldsIn b .start) 0 (listed (saidIn (now (s .entry))) (recordsOf (now (t .entry)))) ⌝ }
 {
-    let n = t.len() / WIDTH;
+    let n = t.len() / RECORD;
     let mut i = 0;
     let mut k = 0;
     while i < n {

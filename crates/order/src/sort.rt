@@ -1,7 +1,7 @@
 // The records of a buffer, sorted by halves.
 use crate::compare;
 use crate::compare::Order;
-use row::table::WIDTH;
+use crate::record::RECORD;
 ghost use mathlib.Core.Path.{_≡_};
 ghost use mathlib.Core.Bool.{cond};
 ghost use mathlib.Core.List.{_++_};
@@ -11,6 +11,7 @@ ghost use lib.ListN.{length, drop};
 ghost use lib.Seq.{paste};
 ghost use Rattle.order.specs.Sorted.{sortedBytes};
 ghost use Rattle.order.specs.steps.Merge.{leftFirst, merging};
+ghost use Rattle.order.specs.Records.{recordWidth, recordRoom};
 
 // So many bytes, from i on, over those from k on.
 fn copy(from: &[u8], i: usize, to: &mut [u8], k: usize, count: usize)
@@ -49,11 +50,11 @@ fn copy_eight(from: &[u8], i: usize, to: &mut [u8], k: usize)
 
 // Record i, over record k.
 fn copy_record(from: &[u8], i: usize, to: &mut [u8], k: usize)
-    requires { ⌜ (i * 32 + 32 ≤ length (now from)) × (k * 32 + 32 ≤ length (now to)) ⌝ }
-    ensures { λ _. ⌜ now (to .exit) ≡ paste (now (to .entry)) (k * 32) (drop (i * 32) (now (from .entry))) 32 ⌝ }
+    requires { ⌜ (i * recordWidth + recordWidth ≤ length (now from)) × (k * recordWidth + recordWidth ≤ length (now to)) ⌝ }
+    ensures { λ _. ⌜ now (to .exit) ≡ paste (now (to .entry)) (k * recordWidth) (drop (i * recordWidth) (now (from .entry))) recordWidth ⌝ }
 {
-    let a = i * WIDTH;
-    let b = k * WIDTH;
+    let a = i * RECORD;
+    let b = k * RECORD;
     copy_eight(from, a, to, b);
     copy_eight(from, a + 8, to, b + 8);
     copy_eight(from, a + 16, to, b + 16);
@@ -62,7 +63,7 @@ fn copy_record(from: &[u8], i: usize, to: &mut [u8], k: usize)
 
 // Whether record i comes next, where records i to m and j to n are left.
 fn left_first(s: &[u8], t: &[u8], i: usize, m: usize, j: usize, n: usize) -> bool
-    requires { ⌜ (m * 32 ≤ length (now t)) × (n * 32 ≤ length (now t)) ⌝ }
+    requires { ⌜ (m * recordWidth ≤ length (now t)) × (n * recordWidth ≤ length (now t)) ⌝ }
     ensures { λ r. ⌜ r ≡ leftFirst (now (s .entry)) (now (t .entry)) i m j n ⌝ }
 {
     if m <= i {
@@ -81,11 +82,11 @@ fn left_first(s: &[u8], t: &[u8], i: usize, m: usize, j: usize, n: usize) -> boo
 
 // The first m records and the others, each sorted, in one, into the front of u.
 fn merge(s: &[u8], t: &[u8], m: usize, u: &mut [u8])
-    requires { ⌜ (m ≤ length (now t) / 32) × (length (now t) / 32 * 32 ≤ length (now u)) ⌝ }
-    ensures { λ _. ⌜ now (u .exit) ≡ merging (now (s .entry)) (now (t .entry)) 0 m m (length (now (t .entry)) / 32)
-        ++ drop (length (now (t .entry)) / 32 * 32) (now (u .entry)) ⌝ }
+    requires { ⌜ (m ≤ recordRoom (now t)) × (recordRoom (now t) * recordWidth ≤ length (now u)) ⌝ }
+    ensures { λ _. ⌜ now (u .exit) ≡ merging (now (s .entry)) (now (t .entry)) 0 m m (recordRoom (now (t .entry)))
+        ++ drop (recordRoom (now (t .entry)) * recordWidth) (now (u .entry)) ⌝ }
 {
-    let n = t.len() / WIDTH;
+    let n = t.len() / RECORD;
     let mut i = 0;
     let mut j = m;
     let mut k = 0;
@@ -104,27 +105,27 @@ fn merge(s: &[u8], t: &[u8], m: usize, u: &mut [u8])
 
 // Each half is sorted as a range of its own.
 fn sort_part(s: &[u8], t: &mut [u8], u: &mut [u8])
-    requires { ⌜ length (now t) / 32 * 32 ≤ length (now u) ⌝ }
+    requires { ⌜ recordRoom (now t) * recordWidth ≤ length (now u) ⌝ }
     ensures { λ _. ⌜ now (t .exit) ≡ sortedBytes (now (s .entry)) (now (t .entry)) ⌝ }
 {
-    let n = t.len() / WIDTH;
+    let n = t.len() / RECORD;
     if n < 2 {
         return;
     }
     let m = n / 2;
-    let at = m * WIDTH;
+    let at = m * RECORD;
     sort_part(s, &mut t[0..at], &mut u[0..at]);
     sort_part(s, &mut t[at..], &mut u[at..]);
     merge(s, t, m, u);
-    copy(u, 0, t, 0, n * WIDTH);
+    copy(u, 0, t, 0, n * RECORD);
 }
 
 // The records of t in order, if the lent working space holds as many; else it says so, and t is left.
 pub fn sort(s: &[u8], t: &mut [u8], work: &mut [u8]) -> bool
-    ensures answer { λ r. ⌜ r ≡ leb (length (now (t .entry)) / 32 * 32) (length (now (work .entry))) ⌝ }
-    ensures bytes { λ _. ⌜ now (t .exit) ≡ cond (leb (length (now (t .entry)) / 32 * 32) (length (now (work .entry)))) (sortedBytes (now (s .entry)) (now (t .entry))) (now (t .entry)) ⌝ }
+    ensures answer { λ r. ⌜ r ≡ leb (recordRoom (now (t .entry)) * recordWidth) (length (now (work .entry))) ⌝ }
+    ensures bytes { λ _. ⌜ now (t .exit) ≡ cond (leb (recordRoom (now (t .entry)) * recordWidth) (length (now (work .entry)))) (sortedBytes (now (s .entry)) (now (t .entry))) (now (t .entry)) ⌝ }
 {
-    if work.len() < t.len() / WIDTH * WIDTH {
+    if work.len() < t.len() / RECORD * RECORD {
         return false;
     }
     sort_part(s, t, work);

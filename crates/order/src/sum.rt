@@ -1,12 +1,12 @@
 // The exact sum of the values of records: a running sum may be of any size.
 use crate::compare;
+use crate::record::RECORD;
 use decimal::Value;
-use row::table::WIDTH;
 ghost use mathlib.Core.Path.{_≡_};
 ghost use mathlib.Core.List.{map};
 ghost use Prim.Native.Nat.{_+_, _≤_};
 ghost use Rattle.decimal.specs.Exact.{exactly};
-ghost use Rattle.row.specs.Row.{rowIn};
+ghost use Rattle.row.specs.Row.{fieldsIn};
 ghost use Rattle.order.specs.Sorted.{recordsOf};
 ghost use Rattle.order.specs.Sums.{wholeFrom, summed};
 ghost use Rattle.order.specs.steps.Wide.{size, held};
@@ -82,9 +82,9 @@ fn long(n: usize) -> u64
 
 // The sum of the values of all records of a buffer.
 pub fn sum(t: &[u8]) -> Value
-    ensures { λ r. ⌜ r ≡ summed (map (λ y. wholeFrom (rowIn y .bits)) (recordsOf (now (t .entry)))) ⌝ }
+    ensures { λ r. ⌜ r ≡ summed (map (λ y. wholeFrom (fieldsIn y .bits)) (recordsOf (now (t .entry)))) ⌝ }
 {
-    let n = t.len() / WIDTH;
+    let n = t.len() / RECORD;
     let count = long(n);
     let mut w = Wide {
         high: count,

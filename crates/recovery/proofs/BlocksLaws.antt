@@ -11,7 +11,8 @@ use lib.Seq.{take-all, drop-drop, length-take-le}
 use Rattle.text.specs.Permitted.{sizeLimit}
 use Rattle.amount.proofs.RowCounts.{refusalKind}
 use Rattle.row.specs.declared.table.Row.{Row}
-use Rattle.row.specs.Row.{rowsBytes, placeOf, feeds}
+use Rattle.row.specs.Row.{placeOf, feeds}
+use Rattle.row.specs.Pouring.{bytesOf}
 use Rattle.ledger.specs.Strict.{partBy}
 use Rattle.ledger.specs.declared.scan.Profile.{Profile}
 use Rattle.ledger.specs.steps.Scan.{withLine}
@@ -78,7 +79,7 @@ module _ (K : Profile) where
     pub rest : recoverBy K (length s) 0 0 s ≡ rows ++ recoverBy K fuel at line (drop at s)
 
   pub cut-start : (s t : List ℕ) → Cut s t 0 0 t
-  unfolding rowsBytes
+  unfolding bytesOf
   cut-start s t =
       record {
         fuel = length s;

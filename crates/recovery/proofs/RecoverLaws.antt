@@ -1,5 +1,5 @@
 -- Recovering reading: its answers and its table, each from what the code knows where it answers.
-use Prim.Native.Nat.{ℕ, suc, _*_, _-_, _/_, _≤_, _<_}
+use Prim.Native.Nat.{ℕ, suc, _*_, _-_, _≤_, _<_}
 use native.Mathlib.Omega.{arith}
 use mathlib.Core.Path.{_≡_, sym, _∙_, ap, subst}
 use mathlib.Core.List.{List, map}
@@ -9,7 +9,7 @@ use lib.ListN.{length, take, drop, length-map}
 use Rattle.text.specs.Permitted.{sizeLimit}
 use Rattle.amount.proofs.RowCounts.{refusalKind}
 use Rattle.row.specs.declared.table.Row.{Row}
-use Rattle.row.specs.Row.{pour}
+use Rattle.row.specs.Row.{pour, room, width}
 use Rattle.row.specs.steps.Sweep.{linesSet}
 use Rattle.ledger.specs.Plain.{accepted, denied}
 use Rattle.ledger.specs.Answers.{answer, left}
@@ -52,36 +52,36 @@ module _ (K : Profile) where
     unfolding unlined
     wanted = e ∙ length-map all-rows (withLine 0)
 
-    module _ (h : length t / 32 < n) where
-      short : length t / 32 < length all-rows
+    module _ (h : room t < n) where
+      short : room t < length all-rows
       short = omega (arith, wanted)
 
-      pub short-answer : Answer.Refusal 9 0 n ≡ answer (recoveredBy K s) (length t / 32)
+      pub short-answer : Answer.Refusal 9 0 n ≡ answer (recoveredBy K s) (room t)
       unfolding answer
-      short-answer = ap (Answer.Refusal 9 0) wanted ∙ rw (recovered-rows, lt-leb (length all-rows) (length t / 32) short)
+      short-answer = ap (Answer.Refusal 9 0) wanted ∙ rw (recovered-rows, lt-leb (length all-rows) (room t) short)
 
       pub short-left : t ≡ left (recoveredBy K s) t
       unfolding left
-      short-left = rw (recovered-rows, lt-leb (length all-rows) (length t / 32) short)
+      short-left = rw (recovered-rows, lt-leb (length all-rows) (room t) short)
 
-    module _ (h : n ≤ length t / 32) where
-      room : length all-rows ≤ length t / 32
-      room = omega (arith, wanted)
+    module _ (h : n ≤ room t) where
+      enough : length all-rows ≤ room t
+      enough = omega (arith, wanted)
 
-      pub rows-answer : Answer.Rows n ≡ answer (recoveredBy K s) (length t / 32)
+      pub rows-answer : Answer.Rows n ≡ answer (recoveredBy K s) (room t)
       unfolding answer
-      rows-answer = ap Answer.Rows wanted ∙ rw (recovered-rows, le-leb (length all-rows) (length t / 32) room)
+      rows-answer = ap Answer.Rows wanted ∙ rw (recovered-rows, le-leb (length all-rows) (room t) enough)
 
-      pub rows-left : (v u : List ℕ) → length v ≡ length (take (n * 32 - 0) (drop 0 t)) → Front (unlined K s) (take (n * 32 - 0) (drop 0 t)) v
-          → u ≡ linesSet s n (putMid 0 (n * 32 - 0) t v) → u ≡ left (recoveredBy K s) t
+      pub rows-left : (v u : List ℕ) → length v ≡ length (take (n * width - 0) (drop 0 t)) → Front (unlined K s) (take (n * width - 0) (drop 0 t)) v
+          → u ≡ linesSet s n (putMid 0 (n * width - 0) t v) → u ≡ left (recoveredBy K s) t
       unfolding unlined
       rows-left v u k p q =
-          let z : n * 32 - 0 ≡ n * 32 = omega arith in
+          let z : n * width - 0 ≡ n * width = omega arith in
           q
           ∙ ap (λ x. linesSet s n (putMid 0 x t v)) z
           ∙ ap (linesSet s n) (front-filled (map (withLine 0) all-rows) n t v e (omega arith) (rw z at k) (subst (λ x. Front (map (withLine 0) all-rows) (take x (drop 0 t)) v) z p))
           ∙ ap (λ x. linesSet s x (pour (map (withLine 0) all-rows) t)) wanted
-          ∙ lines-left (suc refusalKind) s all-rows t (recover-kept K (length s) 0 0 s) l room
+          ∙ lines-left (suc refusalKind) s all-rows t (recover-kept K (length s) 0 0 s) l enough
           ∙ ap (λ x. left x t) (sym recovered-rows)
 
 pub ruleset recover-laws = (large-answer, large-left, short-answer, short-left, rows-answer, rows-left)

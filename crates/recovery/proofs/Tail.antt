@@ -1,5 +1,5 @@
 -- Demand 3, proved.
-use Prim.Native.Nat.{ℕ, zero, suc, _+_, _/_, _<_, _≤_}
+use Prim.Native.Nat.{ℕ, zero, suc, _+_, _<_, _≤_}
 use native.Mathlib.Nat.{zero-add}
 use native.Mathlib.Omega.{arith}
 use mathlib.Core.Path.{_≡_, sym, ap, subst, _∙_}
@@ -10,7 +10,7 @@ use borrow.Author.Tests.{le-leb}
 use lib.ListN.{length, take, drop, drop-of-length-le, take-append-drop, length-append, length-take, length-drop}
 use lib.Seq.{take-all, drop-append-seam}
 use Rattle.row.specs.declared.table.Row.{Row}
-use Rattle.row.specs.Row.{feeds, width}
+use Rattle.row.specs.Row.{feeds, room}
 use Rattle.row.proofs.PourLaws.{le-or-lt}
 use Rattle.entry.specs.Lost.{whole}
 use Rattle.entry.proofs.HeldLaws.{whole-append}
@@ -109,11 +109,11 @@ module _ (K : Profile) where
 
   pub demand-3-call : Demand3Call K
   unfolding answer left
-  demand-3-call p t ts ps table g e room =
+  demand-3-call p t ts ps table g e fits =
       let d = demand-3 p t ts g in
       let s : d .before ≡ ps = accepted-same (d .before) ps (sym (d .alone) ∙ e) in
       let w : recoveredBy K (p ++ t) ≡ accepted (thenTail ps p ts) = subst (λ z. recoveredBy K (p ++ t) ≡ accepted (thenTail z p ts)) s (d .together) in
       record {
-        answers = rw (w, le-leb (length (thenTail ps p ts)) (length table / width) room);
-        leaves = rw (w, le-leb (length (thenTail ps p ts)) (length table / width) room);
+        answers = rw (w, le-leb (length (thenTail ps p ts)) (room table) fits);
+        leaves = rw (w, le-leb (length (thenTail ps p ts)) (room table) fits);
       }

@@ -5,7 +5,7 @@
 -- It is said of both profiles, K: strict reading of a tail, and strict recovering reading, as plain reading and recovering reading.
 --
 -- The reading rules enter by three names alone: `readingBy`, plain or strict reading; `recoveredBy`, recovering reading; `whole`, demand 3's strings.
-use Prim.Native.Nat.{ℕ, _+_, _*_, _/_, _≤_}
+use Prim.Native.Nat.{ℕ, _+_, _*_, _≤_}
 use Prim.Native.Char.{code}
 use mathlib.Core.Path.{_≡_}
 use mathlib.Core.Bool.{Bool, true, false, _||_, _&&_}
@@ -16,7 +16,7 @@ use lib.ListN.{length, drop}
 use Rattle.text.specs.Bytes.{isDigit, isSmall}
 use Rattle.text.specs.Permitted.{sizeLimit}
 use Rattle.row.specs.declared.table.Row.{Row}
-use Rattle.row.specs.Row.{rowOf, rowsBytes, width, feeds}
+use Rattle.row.specs.Row.{rowOf, rowsBytes, width, feeds, room}
 use Rattle.row.specs.Strings.{holds}
 use Rattle.entry.specs.Lost.{whole}
 use Rattle.ledger.specs.Plain.{moved, accepted, denied}
@@ -70,13 +70,13 @@ Demand3 K = (p t : List ℕ) (ts : List Row) → Given K p t ts → Gives K p t 
 -- ---- as a call sees it: on a table with room for the rows rs it answers their number, and the table has their bytes, and past them what it had
 
 pub record Writes (K : Profile) (ledger table : List ℕ) (rs : List Row) : Type 0 where
-  pub answers : answer (recoveredBy K ledger) (length table / width) ≡ Answer.Rows (length rs)
+  pub answers : answer (recoveredBy K ledger) (room table) ≡ Answer.Rows (length rs)
   pub leaves : left (recoveredBy K ledger) table ≡ rowsBytes rs ++ drop (length rs * width) table
 
 abbrev pub Demand3Call : Profile → Type 0
 Demand3Call K =
     (p t : List ℕ) (ts ps : List Row) (table : List ℕ) → Given K p t ts → recoveredBy K p ≡ accepted ps
-    → length (thenTail ps p ts) ≤ length table / width → Writes K (p ++ t) table (thenTail ps p ts)
+    → length (thenTail ps p ts) ≤ room table → Writes K (p ++ t) table (thenTail ps p ts)
 
 -- ---- on a ledger that is not damaged, and none of whose strings holds such a line, recovering reading is that reading
 

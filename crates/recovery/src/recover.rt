@@ -13,6 +13,7 @@ ghost use Rattle.text.specs.Permitted.{sizeLimit};
 ghost use Rattle.ledger.specs.Answers.{answer, left};
 ghost use Rattle.recovery.specs.Recovering.{recoveredBy, recovered, recoveredStrictly};
 ghost use Rattle.recovery.specs.steps.Front.{unlined, Front};
+ghost use Rattle.row.specs.Row.{room};
 
 // Block by block: so many rows, which go to the table's front, where they all fit, with no lines yet. What stands behind them may change too.
 fn blocks(s: &[u8], table: &mut [u8], profile: Profile) -> usize
@@ -33,7 +34,7 @@ fn blocks(s: &[u8], table: &mut [u8], profile: Profile) -> usize
 
 // Recovering reading of a ledger, in a profile, into a row table. A refusal leaves every byte of the table.
 fn recover_by(ledger: &[u8], table: &mut [u8], profile: Profile) -> Answer
-    ensures answer { λ r. ⌜ r ≡ answer (recoveredBy profile (now (ledger .entry))) (length (now (table .entry)) / 32) ⌝ }
+    ensures answer { λ r. ⌜ r ≡ answer (recoveredBy profile (now (ledger .entry))) (room (now (table .entry))) ⌝ }
     ensures rows { λ _. ⌜ now (table .exit) ≡ left (recoveredBy profile (now (ledger .entry))) (now (table .entry)) ⌝ }
 {
     if SIZE < ledger.len() {
@@ -60,7 +61,7 @@ fn recover_by(ledger: &[u8], table: &mut [u8], profile: Profile) -> Answer
 
 // Recovering reading, each block read plainly.
 pub fn recover(ledger: &[u8], table: &mut [u8]) -> Answer
-    ensures answer { λ r. ⌜ r ≡ answer (recovered (now (ledger .entry))) (length (now (table .entry)) / 32) ⌝ }
+    ensures answer { λ r. ⌜ r ≡ answer (recovered (now (ledger .entry))) (room (now (table .entry))) ⌝ }
     ensures rows { λ _. ⌜ now (table .exit) ≡ left (recovered (now (ledger .entry))) (now (table .entry)) ⌝ }
 {
     recover_by(ledger, table, Profile::Plain)
@@ -68,7 +69,7 @@ pub fn recover(ledger: &[u8], table: &mut [u8]) -> Answer
 
 // Recovering reading, each block read strictly (M-110).
 pub fn recover_strict(ledger: &[u8], table: &mut [u8]) -> Answer
-    ensures answer { λ r. ⌜ r ≡ answer (recoveredStrictly (now (ledger .entry))) (length (now (table .entry)) / 32) ⌝ }
+    ensures answer { λ r. ⌜ r ≡ answer (recoveredStrictly (now (ledger .entry))) (room (now (table .entry))) ⌝ }
     ensures rows { λ _. ⌜ now (table .exit) ≡ left (recoveredStrictly (now (ledger .entry))) (now (table .entry)) ⌝ }
 {
     recover_by(ledger, table, Profile::Strict)

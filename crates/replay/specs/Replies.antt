@@ -1,10 +1,10 @@
 -- What each call answers, as the four numbers of a case, and every byte of the lent buffer afterwards.
-use Prim.Native.Nat.{ℕ, _-_, _/_}
+use Prim.Native.Nat.{ℕ, _-_}
 use mathlib.Core.Bool.{Bool, true, cond, _||_, _&&_}
 use mathlib.Core.List.{List, [], _∷_, _++_}
 use lib.Dec.{eqb, leb}
 use lib.ListN.{length, take, drop}
-use Rattle.row.specs.Row.{width}
+use Rattle.row.specs.Row.{room}
 use Rattle.ledger.specs.Plain.{Reading, plain}
 use Rattle.ledger.specs.Strict.{strict}
 use Rattle.ledger.specs.Answers.{answer, left}
@@ -58,7 +58,7 @@ editOf c s u = editing s (take (c .d) u) (c .c) (c .a) (c .b) (drop (c .d) u)
 
 -- a case whose rows are longer than both is none
 abbrev pub edited : Case → List ℕ → List ℕ → List ℕ → Outcome
-edited c s u t = cond (leb (c .d) (length u)) (Outcome.Answered (ofReply (replyOf (answer (editOf c s u) (length t / width))))) Outcome.Unknown
+edited c s u t = cond (leb (c .d) (length u)) (Outcome.Answered (ofReply (replyOf (answer (editOf c s u) (room t))))) Outcome.Unknown
 
 abbrev pub editedLeft : Case → List ℕ → List ℕ → List ℕ → List ℕ
 editedLeft c s u t = cond (leb (c .d) (length u)) (left (editOf c s u) t) t
@@ -125,7 +125,7 @@ readingOf k s = cond (eqb k 1) (plain s) (cond (eqb k 2) (recovered s) (cond (eq
 unfoldable pub outcome : Case → List ℕ → List ℕ → List ℕ → Outcome
 outcome c s u t =
     let k = c .call in
-    let reading = Outcome.Answered (ofReply (replyOf (answer (readingOf k s) (length t / width)))) in
+    let reading = Outcome.Answered (ofReply (replyOf (answer (readingOf k s) (room t)))) in
     let single = Outcome.Answered (ofEvaluated (evaluatedOf (evaluated Rounding s))) in
     let singleExact = Outcome.Answered (ofEvaluated (evaluatedOf (evaluated Exact s))) in
     let content = Outcome.Answered (ofReply (writtenReply (contentAnswer s (length t)))) in

@@ -12,7 +12,7 @@ use lib.Dec.{ltb, leb}
 use lib.ListN.{length, take, drop}
 use lib.Seq.{sets, sets-eq, drop-drop}
 use Rattle.row.specs.declared.table.Row.{Row}
-use Rattle.row.specs.Row.{rowIn, rowsIn}
+use Rattle.row.specs.Row.{rowIn, rowsIn, width}
 use Rattle.row.specs.Details.{spanned}
 use Rattle.ledger.proofs.ScanLaws.{rest-of}
 use Rattle.layout.specs.Meaning.{Item, texted, naming, itemOf, meaning}
@@ -93,16 +93,16 @@ unfolding itemOf texted naming spanned
 no-item s = refl
 
 -- the first of the rows that are left, and the others
-rows-more : (m i : ℕ) (t : List ℕ) → rowsIn (suc m) (drop i t) ≡ front (rowsIn (suc m) (drop i t)) ∷ rowsIn m (drop (i + 32) t)
+rows-more : (m i : ℕ) (t : List ℕ) → rowsIn (suc m) (drop i t) ≡ front (rowsIn (suc m) (drop i t)) ∷ rowsIn m (drop (i + width) t)
 unfolding rowsIn
-rows-more m i t = ap (λ (z : List ℕ). rowIn (drop i t) ∷ rowsIn m z) (drop-drop 32 i t)
+rows-more m i t = ap (λ (z : List ℕ). rowIn (drop i t) ∷ rowsIn m z) (drop-drop width i t)
 
 front-flagged : (xs : List Row) → AllFlagged xs → Flagged (front xs)
 front-flagged [] h = record { low = λ e. omega arith }
 front-flagged (x ∷ xs) h = h .0
 
-module _ (s t : List ℕ) (n : ℕ) (o : List ℕ) (h : (n * 32 ≤ length t) × AllFlagged (rowsIn n t)) where
-  pub rows-room : 0 + n * 32 ≤ length t
+module _ (s t : List ℕ) (n : ℕ) (o : List ℕ) (h : (n * width ≤ length t) × AllFlagged (rowsIn n t)) where
+  pub rows-room : 0 + n * width ≤ length t
   rows-room = omega (arith, h .0)
 
   pub rows-start : (prev x : Row) → prev ≡ noRow → x ≡ front (rowsIn n (drop 0 t)) → Going s t n o o n 0 0 0 prev x
@@ -126,22 +126,22 @@ module _ (s t : List ℕ) (n : ℕ) (o : List ℕ) (out : List ℕ) (left i at k
   rows-flagged = subst Flagged (sym (g .first)) (front-flagged (rowsIn left (drop i t)) (g .flags))
 
   module _ (h : 0 < left) where
-    pub place-fits : length t * 1 < 2 ^ 63 → Fits w64 (i + 32)
+    pub place-fits : length t * 1 < 2 ^ 63 → Fits w64 (i + width)
     place-fits l = record { fits = omega (arith, g .room) }
 
-    pub next-room : i + 32 + (left - 1) * 32 ≤ length t
+    pub next-room : i + width + (left - 1) * width ≤ length t
     next-room = omega (arith, g .room)
 
-    all-left : (m : ℕ) → left ≡ suc m → rowsIn left (drop i t) ≡ x ∷ rowsIn m (drop (i + 32) t)
+    all-left : (m : ℕ) → left ≡ suc m → rowsIn left (drop i t) ≡ x ∷ rowsIn m (drop (i + width) t)
     all-left m y =
         ap (λ (j : ℕ). rowsIn j (drop i t)) y ∙ rows-more m i t
-        ∙ ap (λ (z : Row). z ∷ rowsIn m (drop (i + 32) t)) (ap (λ (j : ℕ). front (rowsIn j (drop i t))) (sym y) ∙ sym (g .first))
+        ∙ ap (λ (z : Row). z ∷ rowsIn m (drop (i + width) t)) (ap (λ (j : ℕ). front (rowsIn j (drop i t))) (sym y) ∙ sym (g .first))
 
-    pub rows-on : (next : Row) (v : List ℕ) (q j : ℕ) → next ≡ front (rowsIn (left - 1) (drop (i + 32) t))
-        → Put out at (pieceText k (itemOf s prev) (itemOf s x) (next .kind)) v q → j ≡ kindNow (x .kind) k → Going s t n o v (left - 1) (i + 32) q j x next
+    pub rows-on : (next : Row) (v : List ℕ) (q j : ℕ) → next ≡ front (rowsIn (left - 1) (drop (i + width) t))
+        → Put out at (pieceText k (itemOf s prev) (itemOf s x) (next .kind)) v q → j ≡ kindNow (x .kind) k → Going s t n o v (left - 1) (i + width) q j x next
     rows-on next v q j en p ej =
         let m = left - 1 in
-        let xs = rowsIn m (drop (i + 32) t) in
+        let xs = rowsIn m (drop (i + width) t) in
         let y : left ≡ suc m = omega arith in
         let c : rowsIn left (drop i t) ≡ x ∷ xs = all-left m y in
         let f : next .kind ≡ kindOf (meaning s xs) = ap (λ (z : Row). z .kind) en ∙ sym (kind-front s xs) in

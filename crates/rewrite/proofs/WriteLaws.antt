@@ -1,5 +1,5 @@
 -- The call: the rows in the working space are those of plain reading.
-use Prim.Native.Nat.{ℕ, _*_, _/_, _≤_, _<_, min}
+use Prim.Native.Nat.{ℕ, _*_, _≤_, _<_, min}
 use native.Mathlib.Omega.{arith}
 use mathlib.Core.Path.{_≡_, refl, sym, _∙_, ap, subst}
 use mathlib.Core.Bool.{Bool, true, false, cond}
@@ -13,7 +13,7 @@ use mir.Val.{Fits}
 use Rattle.text.specs.Permitted.{sizeLimit}
 use Rattle.text.specs.Every.{Every}
 use Rattle.row.specs.declared.table.Row.{Row}
-use Rattle.row.specs.Row.{rowsBytes, rowsIn}
+use Rattle.row.specs.Row.{rowsBytes, rowsIn, room, width}
 use Rattle.row.specs.Work.{cleared}
 use Rattle.row.proofs.ReadBack.{wrapped, row-in, held-back, rows-front}
 use Rattle.row.proofs.PourLaws.{length-rowsBytes}
@@ -60,8 +60,8 @@ plain-few s rs e =
 -- what plain reading found
 data Found (s w : List ℕ) (a : Got) (v : List ℕ) : Type 0 where
   no : (n p : ℕ) → plain s ≡ denied n p → a ≡ Got.Refusal n p 0 → v ≡ w → Found s w a v
-  small : (rs : List Row) → plain s ≡ accepted rs → length w / 32 < length rs → a ≡ Got.Refusal 9 0 (length rs) → v ≡ w → Found s w a v
-  all : (rs : List Row) → plain s ≡ accepted rs → length rs ≤ length w / 32 → a ≡ Got.Rows (length rs) → v ≡ rowsBytes rs ++ drop (length rs * 32) w → Found s w a v
+  small : (rs : List Row) → plain s ≡ accepted rs → room w < length rs → a ≡ Got.Refusal 9 0 (length rs) → v ≡ w → Found s w a v
+  all : (rs : List Row) → plain s ≡ accepted rs → length rs ≤ room w → a ≡ Got.Rows (length rs) → v ≡ rowsBytes rs ++ drop (length rs * width) w → Found s w a v
 
 third : (a b c d e f : ℕ) → Got.Refusal a b c ≡ Got.Refusal d e f → f ≡ c
 third a b c d e f h = cc
@@ -79,41 +79,41 @@ was-denied : (s o w : List ℕ) (r : Answer) (v : List ℕ) (n p : ℕ) → plai
 unfolding answered outputLeft workLeft
 was-denied s o w r v n p x er ev = record { answer = er ∙ rw x; output = rw x; work = ev ∙ rw x }
 
-was-small : (s o w : List ℕ) (r : Answer) (v : List ℕ) (rs : List Row) → plain s ≡ accepted rs → length w / 32 < length rs → r ≡ Answer.Refusal 9 1 (length rs * 32) → v ≡ w → Rewrites s o w r o v
+was-small : (s o w : List ℕ) (r : Answer) (v : List ℕ) (rs : List Row) → plain s ≡ accepted rs → room w < length rs → r ≡ Answer.Refusal 9 1 (length rs * width) → v ≡ w → Rewrites s o w r o v
 unfolding answered outputLeft workLeft
 was-small s o w r v rs x l er ev =
-    let q : leb (length rs * 32) (length w) ≡ false = lt-leb (length rs * 32) (length w) (omega arith) in
+    let q : leb (length rs * width) (length w) ≡ false = lt-leb (length rs * width) (length w) (omega arith) in
     record { answer = er ∙ rw (x, q); output = rw (x, q); work = ev ∙ rw (x, q) }
 
-was-all : (s o w : List ℕ) (r : Answer) (u x v : List ℕ) (rs : List Row) → plain s ≡ accepted rs → length rs ≤ length w / 32
-    → Pours (written s (rowsIn (length rs) v)) o r u → x ≡ cleared (length rs * 32) v → v ≡ rowsBytes rs ++ drop (length rs * 32) w
+was-all : (s o w : List ℕ) (r : Answer) (u x v : List ℕ) (rs : List Row) → plain s ≡ accepted rs → length rs ≤ room w
+    → Pours (written s (rowsIn (length rs) v)) o r u → x ≡ cleared (length rs * width) v → v ≡ rowsBytes rs ++ drop (length rs * width) w
     → Every WholeRow rs → Rewrites s o w r u x
 unfolding answered outputLeft workLeft cleared
 was-all s o w r u x v rs y l k ex ev h =
-    let q : leb (length rs * 32) (length w) ≡ true = le-leb (length rs * 32) (length w) (omega arith) in
-    let m : rowsIn (length rs) v ≡ rs = ap (rowsIn (length rs)) ev ∙ rows-are (drop (length rs * 32) w) rs h in
+    let q : leb (length rs * width) (length w) ≡ true = le-leb (length rs * width) (length w) (omega arith) in
+    let m : rowsIn (length rs) v ≡ rs = ap (rowsIn (length rs)) ev ∙ rows-are (drop (length rs * width) w) rs h in
     let z : Pours (written s rs) o r u = subst (λ (j : List Row). Pours (written s j) o r u) m k in
-    let d : drop (length rs * 32) v ≡ drop (length rs * 32) w = ap (λ (j : List ℕ). drop (length rs * 32) j) ev ∙ drop-at (rowsBytes rs) (drop (length rs * 32) w) (length rs * 32) (length-rowsBytes rs) in
+    let d : drop (length rs * width) v ≡ drop (length rs * width) w = ap (λ (j : List ℕ). drop (length rs * width) j) ev ∙ drop-at (rowsBytes rs) (drop (length rs * width) w) (length rs * width) (length-rowsBytes rs) in
     let c : min (length (written s rs)) most ≡ length (written s rs) = omega (arith, written-le s rs (plain-size s rs y) (plain-few s rs y)) in
     record { answer = z .answer ∙ rw (y, q, c); output = z .left ∙ rw (y, q); work = ex ∙ rw (d, y, q) }
 
-module _ (s w : List ℕ) (a : Got) (v : List ℕ) (ea : a ≡ answer (plain s) (length w / 32)) (ev : v ≡ left (plain s) w) where
+module _ (s w : List ℕ) (a : Got) (v : List ℕ) (ea : a ≡ answer (plain s) (room w)) (ev : v ≡ left (plain s) w) where
   finds : Found s w a v
   unfolding answer left
   finds = go (plain s) refl ea ev
     where
-      go : (r : Reading) → plain s ≡ r → a ≡ answer r (length w / 32) → v ≡ left r w → Found s w a v
+      go : (r : Reading) → plain s ≡ r → a ≡ answer r (room w) → v ≡ left r w → Found s w a v
       go (denied n p) e f g = no n p e f g
-      go (accepted rs) e f g = on (leb (length rs) (length w / 32)) refl f g
+      go (accepted rs) e f g = on (leb (length rs) (room w)) refl f g
         where
-          on : (b : Bool) → leb (length rs) (length w / 32) ≡ b → a ≡ cond b (Got.Rows (length rs)) (Got.Refusal 9 0 (length rs)) → v ≡ cond b (rowsBytes rs ++ drop (length rs * 32) w) w → Found s w a v
-          on true l f g = all rs e (leb-true (length rs) (length w / 32) l) f g
-          on false l f g = small rs e (leb-false (length rs) (length w / 32) l) f g
+          on : (b : Bool) → leb (length rs) (room w) ≡ b → a ≡ cond b (Got.Rows (length rs)) (Got.Refusal 9 0 (length rs)) → v ≡ cond b (rowsBytes rs ++ drop (length rs * width) w) w → Found s w a v
+          on true l f g = all rs e (leb-true (length rs) (room w) l) f g
+          on false l f g = small rs e (leb-false (length rs) (room w) l) f g
 
-  pub refused-fits : (n p c : ℕ) → a ≡ Got.Refusal n p c → Fits w64 (c * 32)
+  pub refused-fits : (n p c : ℕ) → a ≡ Got.Refusal n p c → Fits w64 (c * width)
   refused-fits n p c e = go finds
     where
-      go : Found s w a v → Fits w64 (c * 32)
+      go : Found s w a v → Fits w64 (c * width)
       go (no m q x f g) = let z : c ≡ 0 = third m q 0 n p c (sym f ∙ e) in record { fits = omega arith }
       go (small rs x l f g) = let z : c ≡ length rs = third 9 0 (length rs) n p c (sym f ∙ e) in record { fits = omega (arith, plain-few s rs x) }
       go (all rs x l f g) = absurd (apart (length rs) n p c (sym f ∙ e))
@@ -127,19 +127,19 @@ module _ (s w : List ℕ) (a : Got) (v : List ℕ) (ea : a ≡ answer (plain s) 
         go (small rs x l f g) = absurd (let y : c ≡ length rs = third 9 0 (length rs) n p c (sym f ∙ e) in omega arith)
         go (all rs x l f g) = absurd (apart (length rs) n p c (sym f ∙ e))
 
-    pub refused-work : (c ≡ 0 → ⊥) → r ≡ Answer.Refusal 9 1 (c * 32) → Rewrites s o w r o v
+    pub refused-work : (c ≡ 0 → ⊥) → r ≡ Answer.Refusal 9 1 (c * width) → Rewrites s o w r o v
     refused-work z er = go finds
       where
         go : Found s w a v → Rewrites s o w r o v
         go (no m q x f g) = absurd (z (third m q 0 n p c (sym f ∙ e)))
-        go (small rs x l f g) = was-small s o w r v rs x l (er ∙ ap (λ (j : ℕ). Answer.Refusal 9 1 (j * 32)) (third 9 0 (length rs) n p c (sym f ∙ e))) g
+        go (small rs x l f g) = was-small s o w r v rs x l (er ∙ ap (λ (j : ℕ). Answer.Refusal 9 1 (j * width)) (third 9 0 (length rs) n p c (sym f ∙ e))) g
         go (all rs x l f g) = absurd (apart (length rs) n p c (sym f ∙ e))
 
   module _ (n : ℕ) (e : a ≡ Got.Rows n) where
-    pub rows-fit : Fits w64 (n * 32)
+    pub rows-fit : Fits w64 (n * width)
     rows-fit = go finds
       where
-        go : Found s w a v → Fits w64 (n * 32)
+        go : Found s w a v → Fits w64 (n * width)
         go (no m q x f g) = absurd (apart n m q 0 (sym e ∙ f))
         go (small rs x l f g) = absurd (apart n 9 0 (length rs) (sym e ∙ f))
         go (all rs x l f g) = let z : n ≡ length rs = rows-same n (length rs) (sym e ∙ f) in record { fits = omega (arith, plain-few s rs x) }
@@ -153,19 +153,19 @@ module _ (s w : List ℕ) (a : Got) (v : List ℕ) (ea : a ≡ answer (plain s) 
         go (all rs x l f g) =
             let z : n ≡ length rs = rows-same n (length rs) (sym e ∙ f) in
             let h = plain-held s rs x in
-            subst AllFlagged (sym (ap (λ (j : ℕ). rowsIn j v) z ∙ ap (rowsIn (length rs)) g ∙ rows-are (drop (length rs * 32) w) rs h)) (all-flagged rs h)
+            subst AllFlagged (sym (ap (λ (j : ℕ). rowsIn j v) z ∙ ap (rowsIn (length rs)) g ∙ rows-are (drop (length rs * width) w) rs h)) (all-flagged rs h)
 
-    pub rows-room : n * 32 ≤ length v
+    pub rows-room : n * width ≤ length v
     rows-room = go finds
       where
-        go : Found s w a v → n * 32 ≤ length v
+        go : Found s w a v → n * width ≤ length v
         go (no m q x f g) = absurd (apart n m q 0 (sym e ∙ f))
         go (small rs x l f g) = absurd (apart n 9 0 (length rs) (sym e ∙ f))
         go (all rs x l f g) =
             let z : n ≡ length rs = rows-same n (length rs) (sym e ∙ f) in
             rw (g, length-append, length-rowsBytes rs) (omega arith)
 
-    pub rows-done : (o u x : List ℕ) (r : Answer) → Pours (written s (rowsIn n v)) o r u → x ≡ cleared (n * 32) v → Rewrites s o w r u x
+    pub rows-done : (o u x : List ℕ) (r : Answer) → Pours (written s (rowsIn n v)) o r u → x ≡ cleared (n * width) v → Rewrites s o w r u x
     rows-done o u x r k ex = go finds
       where
         go : Found s w a v → Rewrites s o w r u x
@@ -173,6 +173,6 @@ module _ (s w : List ℕ) (a : Got) (v : List ℕ) (ea : a ≡ answer (plain s) 
         go (small rs y l f g) = absurd (apart n 9 0 (length rs) (sym e ∙ f))
         go (all rs y l f g) =
             let z : n ≡ length rs = rows-same n (length rs) (sym e ∙ f) in
-            was-all s o w r u x v rs y l (subst (λ (j : ℕ). Pours (written s (rowsIn j v)) o r u) z k) (ex ∙ ap (λ (j : ℕ). cleared (j * 32) v) z) g (plain-held s rs y)
+            was-all s o w r u x v rs y l (subst (λ (j : ℕ). Pours (written s (rowsIn j v)) o r u) z k) (ex ∙ ap (λ (j : ℕ). cleared (j * width) v) z) g (plain-held s rs y)
 
 pub ruleset write-laws = (refused-fits, refused-plain, refused-work, rows-fit, rows-flags, rows-room, rows-done)

@@ -1,5 +1,6 @@
 pub mod FieldLaws
 pub mod ReadBack
+pub mod PouredLaws
 pub mod PourLaws
 pub mod WorkLaws
 pub mod TableLaws

@@ -1,4 +1,4 @@
--- A row as its 32 bytes say it: each field modulo its width, and the row itself where its fields are held; rows at the
+-- A row as its bytes say it: each field modulo its width, and the row itself where its fields are held; rows at the
 -- front of a table.
 use Prim.Native.Nat.{ℕ, zero, suc, _≤_, _<_}
 use native.Mathlib.Nat.{mod-eq-of-lt}
@@ -15,7 +15,8 @@ use Rattle.decimal.specs.declared.Value.the-variants.{Known, Refused}
 use Rattle.amount.proofs.ValueSizes.{Small}
 use Rattle.row.specs.declared.table.Row.{Row}
 use Rattle.row.specs.Field.{le, un}
-use Rattle.row.specs.Row.{width, rowBytes, rowsBytes, rowIn, rowsIn}
+use Rattle.row.specs.Pouring.{bytesOf}
+use Rattle.row.specs.Row.{fieldBytes, fieldsIn, width, rowBytes, rowsBytes, rowIn, rowsIn}
 use Rattle.row.specs.Details.{millionths}
 use Rattle.row.specs.steps.Holding.{Held}
 use Rattle.row.proofs.FieldLaws.{un-le}
@@ -33,8 +34,12 @@ wrapped r =
       bits = un (le 8 (r .bits));
     }
 
+fields-in : (r : Row) (b : List ℕ) → fieldsIn (fieldBytes r ++ b) ≡ wrapped r
+unfolding fieldsIn fieldBytes wrapped
+fields-in r b = refl
+
 pub row-in : (r : Row) (b : List ℕ) → rowIn (rowBytes r ++ b) ≡ wrapped r
-unfolding rowIn rowBytes wrapped
+unfolding rowIn fieldsIn rowBytes fieldBytes wrapped
 row-in r b = refl
 
 -- a number that four bytes hold, and one that eight hold
@@ -44,11 +49,10 @@ four-back x h = un-le 4 x ∙ mod-eq-of-lt h
 pub eight-back : (x : ℕ) → x < 18446744073709551616 → un (le 8 x) ≡ x
 eight-back x h = un-le 8 x ∙ mod-eq-of-lt h
 
-pub held-back : (r : Row) (b : List ℕ) → Held r → rowIn (rowBytes r ++ b) ≡ r
+held-is : (r : Row) → Held r → wrapped r ≡ r
 unfolding wrapped
-held-back r b h =
-    row-in r b
-    ∙ rw (
+held-is r h =
+    rw (
       four-back (r .kind) (h .kind),
       four-back (r .start) (h .start),
       four-back (r .end) (h .end),
@@ -58,9 +62,16 @@ held-back r b h =
       eight-back (r .bits) (h .bits),
     )
 
+-- the same of its fields alone
+pub fields-back : (r : Row) (b : List ℕ) → Held r → fieldsIn (fieldBytes r ++ b) ≡ r
+fields-back r b h = fields-in r b ∙ held-is r h
+
+pub held-back : (r : Row) (b : List ℕ) → Held r → rowIn (rowBytes r ++ b) ≡ r
+held-back r b h = row-in r b ∙ held-is r h
+
 -- rows at the front of a table
 pub rows-front : (rs : List Row) (b : List ℕ) → rowsIn (length rs) (rowsBytes rs ++ b) ≡ map wrapped rs
-unfolding rowsIn rowsBytes
+unfolding rowsIn bytesOf
 rows-front [] b = refl
 rows-front (r ∷ rs) b =
     let x = rowsBytes rs ++ b in

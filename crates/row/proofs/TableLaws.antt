@@ -1,16 +1,17 @@
 -- Laws by which the code of the table does what is asked.
 use mathlib.Core.Path.{_≡_, sym, ap, _∙_}
-use mathlib.Core.List.{List, [], _∷_, append-nil}
-use Prim.Native.Nat.{ℕ, _+_, _-_, _*_, _/_, _<_, _≤_}
+use mathlib.Core.List.{List, [], _∷_, _++_}
+use Prim.Native.Nat.{ℕ, _+_, _-_, _*_, _<_, _≤_}
 use native.Mathlib.Omega.{arith}
 use borrow.Author.Tests.{le-leb, lt-leb}
 use borrow.Rule.Slice.PartMut.{putMid}
-use lib.ListN.{length, take, drop, drop-of-length-le, length-take, length-drop}
-use lib.Seq.{take-all, sets, sets-eq}
+use lib.ListN.{length, take, drop, length-take, length-drop}
+use lib.Seq.{sets, sets-eq}
 use Rattle.row.specs.Field.{le, un, fieldAt}
-use Rattle.row.specs.Row.{rowBytes, rowIn, pour, placeOf, pourAt}
+use Rattle.row.specs.Row.{atKind, atStart, atEnd, atLine, atP, atQ, atValue, fieldsWidth, fieldBytes, fieldsIn, width, rowBytes, rowIn, room, pour, placeOf, pourAt}
 use Rattle.row.specs.declared.table.Row.{Row}
-use Rattle.row.proofs.PourLaws.{length-rowBytes, pour-short, pour-fits, pour-none, pourAt-at, pourAt-full, head-last}
+use Rattle.row.proofs.PouredLaws.{poured-lent, poured-rest}
+use Rattle.row.proofs.PourLaws.{pour-short, pour-fits, pour-none, pourAt-full, head-last}
 
 -- ---- a field that is read, or is not all in the table
 
@@ -31,59 +32,48 @@ pub ruleset fields = (field-wide, field-past, field-cut, field-read)
 
 -- ---- a row that is read back
 
-module _ (t : List ℕ) {a : ℕ} where
-  pub start-read : a ≡ un (take 4 (drop 4 t)) → a ≡ rowIn t .start
-  unfolding rowIn
+module _ (t : List ℕ) where
+  pub start-read : {a : ℕ} → a ≡ un (take 4 (drop atStart t)) → a ≡ rowIn t .start
+  unfolding rowIn fieldsIn
   start-read e = e
 
-  pub row-read : {k e l p q b : ℕ} → k ≡ un (take 4 (drop 0 t)) → a ≡ un (take 4 (drop 4 t)) → e ≡ un (take 4 (drop 8 t))
-      → l ≡ un (take 4 (drop 12 t)) → p ≡ un (take 4 (drop 16 t)) → q ≡ un (take 4 (drop 20 t)) → b ≡ un (take 8 (drop 24 t))
-      → record { kind = k; start = a; end = e; line = l; p = p; q = q; bits = b } ≡ rowIn t
-  unfolding rowIn
-  row-read ek ea ee el ep eq eb = rw (ek, ea, ee, el, ep, eq, eb)
+  pub fields-read : {k a e l p q b : ℕ} → k ≡ un (take 4 (drop atKind t)) → a ≡ un (take 4 (drop atStart t)) → e ≡ un (take 4 (drop atEnd t))
+      → l ≡ un (take 4 (drop atLine t)) → p ≡ un (take 4 (drop atP t)) → q ≡ un (take 4 (drop atQ t)) → b ≡ un (take 8 (drop atValue t))
+      → record { kind = k; start = a; end = e; line = l; p = p; q = q; bits = b } ≡ fieldsIn t
+  unfolding fieldsIn
+  fields-read ek ea ee el ep eq eb = rw (ek, ea, ee, el, ep, eq, eb)
 
-pub ruleset reads = (start-read, row-read)
+  pub row-read : {r : Row} → r ≡ fieldsIn t → r ≡ rowIn t
+  unfolding rowIn
+  row-read e = e
+
+pub ruleset reads = (start-read, fields-read, row-read)
 
 -- ---- a row that is stored
 
 -- the seven stores are one
-row-sets : (r : Row) (t : List ℕ) → 32 ≤ length t → sets t 0 (rowBytes r) ≡ pour (r ∷ []) t
-row-sets r t h =
-    sets-eq (rowBytes r) t 0 (rw length-rowBytes h) ∙ rw (length-rowBytes, pour-fits r [] t h, pour-none)
+pub fields-put : (r : Row) (t : List ℕ) {a b c d e f g : List ℕ} → fieldsWidth ≤ length t
+    → a ≡ sets t atKind (le 4 (r .kind)) → b ≡ sets a atStart (le 4 (r .start)) → c ≡ sets b atEnd (le 4 (r .end)) → d ≡ sets c atLine (le 4 (r .line))
+    → e ≡ sets d atP (le 4 (r .p)) → f ≡ sets e atQ (le 4 (r .q)) → g ≡ sets f atValue (le 8 (r .bits)) → g ≡ fieldBytes r ++ drop fieldsWidth t
+unfolding fieldBytes
+fields-put r t h ea eb ec ed ee ef eg = rw (eg, ef, ee, ed, ec, eb, ea) (sets-eq (fieldBytes r) t 0 h)
 
-pub row-put : (r : Row) (t : List ℕ) {a b c d e f g : List ℕ} → 32 ≤ length t
-    → a ≡ sets t 0 (le 4 (r .kind)) → b ≡ sets a 4 (le 4 (r .start)) → c ≡ sets b 8 (le 4 (r .end)) → d ≡ sets c 12 (le 4 (r .line))
-    → e ≡ sets d 16 (le 4 (r .p)) → f ≡ sets e 20 (le 4 (r .q)) → g ≡ sets f 24 (le 8 (r .bits)) → g ≡ pour (r ∷ []) t
+pub row-put : (r : Row) (t : List ℕ) {u : List ℕ} → width ≤ length t → u ≡ fieldBytes r ++ drop fieldsWidth t → u ≡ pour (r ∷ []) t
 unfolding rowBytes
-row-put r t h ea eb ec ed ee ef eg = rw (eg, ef, ee, ed, ec, eb, ea) (row-sets r t h)
+row-put r t h e = e ∙ sym (rw (pour-fits r [] t h, pour-none))
 
-pub row-none : (rs : List Row) (t : List ℕ) → length t < 32 → t ≡ pour rs t
+pub row-none : (rs : List Row) (t : List ℕ) → length t < width → t ≡ pour rs t
 row-none rs t h = sym (pour-short rs t h)
 
 -- row n alone, lent on
-pub row-lent : (n : ℕ) (r : Row) (t : List ℕ) {e : ℕ} {m : List ℕ} → n < length t / 32 → e ≡ n * 32 + 32
-    → m ≡ pour (r ∷ []) (take (e - n * 32) (drop (n * 32) t)) → putMid (n * 32) (e - n * 32) t m ≡ pourAt n (r ∷ []) t
-row-lent n r t h ee em =
-    let w : n * 32 + 32 - n * 32 ≡ 32 = omega arith in
-    let l : n * 32 ≤ length t = omega arith in
-    let y = drop (n * 32) t in
-    let ly : 32 ≤ length y = rw length-drop (omega arith) in
-    let lz : length (take 32 y) ≡ 32 = rw length-take (omega arith) in
-    let ez : drop 32 (take 32 y) ≡ [] = drop-of-length-le (take 32 y) {i = 32} (rw lz (omega arith)) in
-    rw (
-      em,
-      ee,
-      w,
-      pour-fits r [] (take 32 y) (rw lz (omega arith)),
-      ez,
-      pour-none,
-      append-nil,
-      pourAt-at n (r ∷ []) t l,
-      pour-fits r [] y ly,
-      pour-none,
-    )
+pub row-lent : (n : ℕ) (r : Row) (t : List ℕ) {e : ℕ} {m : List ℕ} → n < room t → e ≡ n * width + width
+    → m ≡ pour (r ∷ []) (take (e - n * width) (drop (n * width) t)) → putMid (n * width) (e - n * width) t m ≡ pourAt n (r ∷ []) t
+row-lent n r t {e} h ee em =
+    let y = take (e - n * width) (drop (n * width) t) in
+    let l : width ≤ length y = rw (length-take, length-drop) (omega arith) in
+    poured-lent width rowBytes n r t (omega arith) ee (em ∙ rw (pour-fits r [] y l, pour-none))
 
-pub row-full : (n : ℕ) (r : Row) (t : List ℕ) → length t / 32 ≤ n → t ≡ pourAt n (r ∷ []) t
+pub row-full : (n : ℕ) (r : Row) (t : List ℕ) → room t ≤ n → t ≡ pourAt n (r ∷ []) t
 row-full n r t h = sym (pourAt-full n (r ∷ []) t h)
 
 -- ---- the rest of a table, lent on from row n
@@ -91,15 +81,7 @@ row-full n r t h = sym (pourAt-full n (r ∷ []) t h)
 pub lent-on : (n : ℕ) (rs : List Row) (t : List ℕ) {a : ℕ} {m : List ℕ} → a ≡ placeOf n (length t)
     → m ≡ pour rs (take (length t - a) (drop a t))
     → putMid a (length t - a) t m ≡ pourAt n rs t
-unfolding pourAt
-lent-on n rs t {a} ea em =
-    rw (
-      em,
-      take-all (length t - a) (drop a t) (rw length-drop (omega arith)),
-      drop-of-length-le (drop a t) {i = length t - a} (rw length-drop (omega arith)),
-      append-nil,
-      ea,
-    )
+lent-on n rs t ea em = poured-rest width rowBytes n rs t ea em
 
 -- details behind the head, into the rest of the table that was lent on, and then the head
 pub head-and-rest : (r : Row) (rs : List Row) (t : List ℕ) {k : ℕ} {m u : List ℕ} → k ≡ placeOf 1 (length t)

@@ -1,5 +1,5 @@
 -- Laws by which the row writer does what is asked: the row of a detail, and what is held of it.
-use Prim.Native.Nat.{ℕ, _+_, _%_, _/_}
+use Prim.Native.Nat.{ℕ, _+_, _%_}
 use mathlib.Core.Path.{_≡_, refl, sym, _∙_, ap}
 use mathlib.Core.Bool.{Bool, true, false}
 use mathlib.Core.List.{List, [], _∷_, _++_}
@@ -13,7 +13,8 @@ use Rattle.decimal.specs.declared.Value.{Value}
 use Rattle.decimal.specs.declared.Value.the-variants.{Known, Refused}
 use Rattle.amount.specs.declared.detail.Detail.{Detail}
 use Rattle.row.specs.Field.{le}
-use Rattle.row.specs.Row.{rowOf, rowBytes, pour, pourAt}
+use Rattle.row.specs.Pouring.{poured, pouredAt}
+use Rattle.row.specs.Row.{rowOf, fieldBytes, rowBytes, room, pourAt}
 use Rattle.row.specs.Details.{spanned, millionths, laid, valuePlace}
 use Rattle.row.specs.steps.Writing.{noted}
 use Rattle.row.specs.declared.table.Row.{Row}
@@ -33,16 +34,21 @@ low b x = four (omega arith) (omega arith) (omega arith) (omega arith)
 abbrev unlined : ℕ → ℕ → ℕ → ℕ → ℕ → ℕ → Row
 unlined k s e p q b = record { kind = k; start = s; end = e; line = 0; p = p; q = q; bits = b }
 
--- rows have the same bytes where each place has the same four
-row-same : (k s e p q b s′ e′ p′ q′ : ℕ) → le 4 s ≡ le 4 s′ → le 4 e ≡ le 4 e′ → le 4 p ≡ le 4 p′ → le 4 q ≡ le 4 q′
-    → rowBytes (unlined k s e p q b) ≡ rowBytes (unlined k s′ e′ p′ q′ b)
-unfolding rowBytes
-row-same k s e p q b s′ e′ p′ q′ hs he hp hq =
+fields-same : (k s e p q b s′ e′ p′ q′ : ℕ) → le 4 s ≡ le 4 s′ → le 4 e ≡ le 4 e′ → le 4 p ≡ le 4 p′ → le 4 q ≡ le 4 q′
+    → fieldBytes (unlined k s e p q b) ≡ fieldBytes (unlined k s′ e′ p′ q′ b)
+unfolding fieldBytes
+fields-same k s e p q b s′ e′ p′ q′ hs he hp hq =
     let B : List ℕ → List ℕ → List ℕ → List ℕ → List ℕ = λ s e p q. le 4 k ++ (s ++ (e ++ (le 4 0 ++ (p ++ (q ++ le 8 b))))) in
     ap (λ (z : List ℕ). B z (le 4 e) (le 4 p) (le 4 q)) hs
     ∙ ap (λ (z : List ℕ). B (le 4 s′) z (le 4 p) (le 4 q)) he
     ∙ ap (λ (z : List ℕ). B (le 4 s′) (le 4 e′) z (le 4 q)) hp
     ∙ ap (λ (z : List ℕ). B (le 4 s′) (le 4 e′) (le 4 p′) z) hq
+
+-- rows have the same bytes where each place has the same four
+row-same : (k s e p q b s′ e′ p′ q′ : ℕ) → le 4 s ≡ le 4 s′ → le 4 e ≡ le 4 e′ → le 4 p ≡ le 4 p′ → le 4 q ≡ le 4 q′
+    → rowBytes (unlined k s e p q b) ≡ rowBytes (unlined k s′ e′ p′ q′ b)
+unfolding rowBytes
+row-same k s e p q b s′ e′ p′ q′ hs he hp hq = rw (fields-same k s e p q b s′ e′ p′ q′ hs he hp hq)
 
 module _ (base : ℕ) (x : Detail) (b : ℕ) (r : Bool) (v : r ≡ spanned (x .kind)) (w : b ≡ twosOf (millionths (x .value))) where
   pub row-span : r ≡ true
@@ -97,12 +103,12 @@ module _ (x : Detail) where
 
 pub put-same : (n : ℕ) (r m : Row) (t : List ℕ) {u v : List ℕ} → rowBytes r ≡ rowBytes m → v ≡ pourAt n (r ∷ []) t → u ≡ v
     → u ≡ pourAt n (m ∷ []) t
-unfolding pourAt pour
+unfolding poured pouredAt
 put-same n r m t e f g = g ∙ f ∙ rw e
 
-pub put-full : (n : ℕ) (rs : List Row) (t : List ℕ) {u : List ℕ} {b : Bool} → b ≡ ltb n (length t / 32) → b ≡ false → u ≡ t
+pub put-full : (n : ℕ) (rs : List Row) (t : List ℕ) {u : List ℕ} {b : Bool} → b ≡ ltb n (room t) → b ≡ false → u ≡ t
     → u ≡ pourAt n rs t
-put-full n rs t e f g = g ∙ sym (pourAt-full n rs t (ltb-false n (length t / 32) (sym e ∙ f)))
+put-full n rs t e f g = g ∙ sym (pourAt-full n rs t (ltb-false n (room t) (sym e ∙ f)))
 
 pub ruleset writing = (
   row-span,

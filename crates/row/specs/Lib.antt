@@ -1,4 +1,5 @@
 pub mod Field
+pub mod Pouring
 pub mod Row
 pub mod Work
 pub mod Details

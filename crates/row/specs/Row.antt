@@ -1,62 +1,102 @@
--- The row table: a row, its 32 bytes, and what rows written from the front leave of a table.
-use Prim.Native.Nat.{ℕ, zero, suc, _+_, _*_, min}
+-- The row table: a row, its bytes, and what rows written from the front leave of a table.
+use Prim.Native.Nat.{ℕ, zero, suc, _+_, _/_}
 use Prim.Native.Char.{code}
 use mathlib.Core.Bool.{cond}
 use mathlib.Core.List.{List, [], _∷_, _++_}
-use lib.Dec.{eqb, leb}
+use lib.Dec.{eqb}
 use lib.IntN.{ℤ}
 use lib.ListN.{length, take, drop}
 use Rattle.decimal.specs.Exact.{twosOf}
 use Rattle.row.specs.declared.table.Row.{Row}
 use Rattle.row.specs.Field.{le, un}
+use Rattle.row.specs.Pouring.{bytesOf, placeAt, poured, pouredAt}
 
 -- a row of document 01: kind, start, end, line, p, q, value
 unfoldable pub rowOf : ℕ → ℕ → ℕ → ℕ → ℕ → ℕ → ℤ → Row
 rowOf k a e l p q v = record { kind = k; start = a; end = e; line = l; p = p; q = q; bits = twosOf v }
 
--- kind, start, end, line, p, q in four bytes each, then the value in eight, signed; little-endian
-unfoldable pub rowBytes : Row → List ℕ
-rowBytes r =
+-- ---- the fields: kind, start, end, line, p, q in four bytes each, then the value in eight, signed; little-endian
+
+-- where each starts
+abbrev pub atKind : ℕ
+atKind = 0
+
+abbrev pub atStart : ℕ
+atStart = 4
+
+abbrev pub atEnd : ℕ
+atEnd = 8
+
+abbrev pub atLine : ℕ
+atLine = 12
+
+abbrev pub atP : ℕ
+atP = 16
+
+abbrev pub atQ : ℕ
+atQ = 20
+
+abbrev pub atValue : ℕ
+atValue = 24
+
+-- the bytes of all
+abbrev pub fieldsWidth : ℕ
+fieldsWidth = 32
+
+unfoldable pub fieldBytes : Row → List ℕ
+fieldBytes r =
     le 4 (r .kind) ++ (le 4 (r .start) ++ (le 4 (r .end) ++ (le 4 (r .line) ++ (le 4 (r .p) ++ (le 4 (r .q) ++ le 8 (r .bits))))))
 
-unfoldable pub rowsBytes : List Row → List ℕ
-rowsBytes [] = []
-rowsBytes (r ∷ rs) = rowBytes r ++ rowsBytes rs
+-- the row whose fields stand at the front of some bytes
+unfoldable pub fieldsIn : List ℕ → Row
+fieldsIn t =
+    record {
+      kind = un (take 4 (drop atKind t));
+      start = un (take 4 (drop atStart t));
+      end = un (take 4 (drop atEnd t));
+      line = un (take 4 (drop atLine t));
+      p = un (take 4 (drop atP t));
+      q = un (take 4 (drop atQ t));
+      bits = un (take 8 (drop atValue t));
+    }
 
--- a row's bytes
+-- ---- a row's bytes: its fields
+
 abbrev pub width : ℕ
-width = 32
+width = fieldsWidth
+
+unfoldable pub rowBytes : Row → List ℕ
+rowBytes r = fieldBytes r
+
+abbrev pub rowsBytes : List Row → List ℕ
+rowsBytes rs = bytesOf rowBytes rs
 
 -- the row whose bytes stand at the front of a table
 unfoldable pub rowIn : List ℕ → Row
-rowIn t =
-    record {
-      kind = un (take 4 t);
-      start = un (take 4 (drop 4 t));
-      end = un (take 4 (drop 8 t));
-      line = un (take 4 (drop 12 t));
-      p = un (take 4 (drop 16 t));
-      q = un (take 4 (drop 20 t));
-      bits = un (take 8 (drop 24 t));
-    }
+rowIn t = fieldsIn t
 
 -- the first k rows of a table
 unfoldable pub rowsIn : ℕ → List ℕ → List Row
 rowsIn zero t = []
 rowsIn (suc k) t = rowIn t ∷ rowsIn k (drop width t)
 
--- the table t after the rows were written from its front: each where a whole row fits, what is past them as it was
-unfoldable pub pour : List Row → List ℕ → List ℕ
-pour [] t = t
-pour (r ∷ rs) t = cond (leb width (length t)) (rowBytes r ++ pour rs (drop width t)) t
+-- ---- the table
 
--- where row n starts in a table of so many bytes, or the table's end
+-- room is a table's length divided by the row's width
+abbrev pub room : List ℕ → ℕ
+room t = length t / width
+
+-- the table t after the rows were written from its front, or from row n on
+abbrev pub pour : List Row → List ℕ → List ℕ
+pour rs t = poured width rowBytes rs t
+
 abbrev pub placeOf : ℕ → ℕ → ℕ
-placeOf n size = min (n * width) size
+placeOf n size = placeAt width n size
 
--- the same from row n on
-unfoldable pub pourAt : ℕ → List Row → List ℕ → List ℕ
-pourAt n rs t = take (placeOf n (length t)) t ++ pour rs (drop (placeOf n (length t)) t)
+abbrev pub pourAt : ℕ → List Row → List ℕ → List ℕ
+pourAt n rs t = pouredAt width rowBytes n rs t
+
+-- ---- lines
 
 -- the line feeds of a text
 unfoldable pub feeds : List ℕ → ℕ

@@ -1,5 +1,7 @@
 // The lines of rows: one plus the line feeds before a row's start.
 use crate::field;
+use crate::table::LINE;
+use crate::table::START;
 use crate::table::WIDTH;
 use text::run;
 use text::run::Class;
@@ -85,8 +87,7 @@ fn line_at(s: &[u8], first: Line, start: usize) -> Line
     l
 }
 
-// The lines of the first n rows of a table are set, in one sweep over s where rows stand in order of start. A row's start
-// stands in its bytes 4 to 7, its line in its bytes 12 to 15.
+// The lines of the first n rows of a table are set, in one sweep over s where rows stand in order of start.
 pub fn set_lines(s: &[u8], table: &mut [u8], n: usize)
     ensures { λ _. ⌜ now (table .exit) ≡ linesSet (now (s .entry)) n (now (table .entry)) ⌝ }
 {
@@ -97,12 +98,12 @@ pub fn set_lines(s: &[u8], table: &mut [u8], n: usize)
         if table.len() - i < WIDTH {
             return;
         }
-        let start = field::get_four(table, i + 4);
+        let start = field::get_four(table, i + START);
         if start < l.from {
             l = line_from(s, 0, 1);
         }
         l = line_at(s, l, start);
-        field::put_four(table, i + 12, l.number);
+        field::put_four(table, i + LINE, l.number);
         i += WIDTH;
         left -= 1;
     }

@@ -1,5 +1,5 @@
 -- Monthly totals: what is answered and left, each from what the code knows where it answers.
-use Prim.Native.Nat.{ℕ, _*_, _-_, _/_, _≤_, _<_}
+use Prim.Native.Nat.{ℕ, _*_, _-_, _≤_, _<_}
 use native.Mathlib.Omega.{arith}
 use mathlib.Core.Path.{_≡_, sym, ap, _∙_}
 use mathlib.Core.Bool.{Bool, true, false, cond, _&&_}
@@ -11,8 +11,10 @@ use lib.ListN.{length, take, drop, replicate, length-take, drop-of-length-le}
 use lib.Seq.{drop-at}
 use Rattle.row.specs.declared.table.Row.{Row}
 use Rattle.row.specs.Work.{cleared}
-use Rattle.row.specs.Row.{rowsBytes, rowIn, pour, width}
-use Rattle.row.proofs.PourLaws.{pour-all, length-pour}
+use Rattle.row.specs.Row.{fieldBytes, fieldsIn}
+use Rattle.row.proofs.PouredLaws.{poured-all, length-poured}
+use Rattle.row.proofs.PourLaws.{length-fieldBytes}
+use Rattle.order.specs.Records.{recordWidth, recordRoom, recordsBytes, putRecords}
 use Rattle.ledger.specs.Plain.{Reading, accepted, plain}
 use Rattle.ledger.specs.steps.Scan.{scanAnswer}
 use Rattle.ledger.specs.declared.scan.Scan.{Scan}
@@ -31,42 +33,42 @@ use Rattle.totals.proofs.JoinLaws.{work-settled, found-answer, found-le
 
 -- ---- the records of the month fill the buffer w; b is the buffer then, sorted v
 
-filled : (rs : List Row) (w : List ℕ) → length w ≡ length rs * 32 → pour rs w ≡ rowsBytes rs
+filled : (rs : List Row) (w : List ℕ) → length w ≡ length rs * recordWidth → putRecords rs w ≡ recordsBytes rs
 filled rs w h =
-    pour-all rs w (omega arith)
-    ∙ ap (λ (x : List ℕ). rowsBytes rs ++ x) (drop-of-length-le w {i = length rs * 32} (omega arith))
-    ∙ append-nil (rowsBytes rs)
+    poured-all recordWidth fieldBytes rs w (omega arith)
+    ∙ ap (λ (x : List ℕ). recordsBytes rs ++ x) (drop-of-length-le w {i = length rs * recordWidth} (omega arith))
+    ∙ append-nil (recordsBytes rs)
 
-module _ (s : List ℕ) (y m : ℕ) (w b v : List ℕ) (lw : length w ≡ length (monthPostings s y m) * 32) (put : b ≡ pour (monthPostings s y m) w)
+module _ (s : List ℕ) (y m : ℕ) (w b v : List ℕ) (lw : length w ≡ length (monthPostings s y m) * recordWidth) (put : b ≡ putRecords (monthPostings s y m) w)
     (held : AllHeld (monthPostings s y m)) (room : ℕ) (lr : length w ≤ room)
-    (sorts : v ≡ cond (leb (length b / 32 * 32) room) (sortedBytes s b) b) where
-  bytes-are : b ≡ rowsBytes (monthPostings s y m)
+    (sorts : v ≡ cond (leb (recordRoom b * recordWidth) room) (sortedBytes s b) b) where
+  bytes-are : b ≡ recordsBytes (monthPostings s y m)
   bytes-are = put ∙ filled (monthPostings s y m) w lw
 
   sorted-is : length b ≡ length w → v ≡ sortedBytes s b
-  sorted-is e = sorts ∙ rw (le-leb (length b / 32 * 32) room (omega (arith, e)))
+  sorted-is e = sorts ∙ rw (le-leb (recordRoom b * recordWidth) room (omega (arith, e)))
 
   sorted-v : v ≡ sortedBytes s b
-  sorted-v = sorted-is (ap length put ∙ length-pour (monthPostings s y m) w)
+  sorted-v = sorted-is (ap length put ∙ length-poured recordWidth fieldBytes length-fieldBytes (monthPostings s y m) w)
 
   pub month-ordered : Ordered (by (saidIn s)) (recordsOf v)
   month-ordered = rw sorted-v (bytes-ordered s b)
 
-  pub month-answer : (r : Answer) (n : ℕ) → r ≡ placed (counted (λ x. rowIn x .start) 0 (listed (saidIn s) (recordsOf v))) n → r ≡ answerOf (listedMonth s y m n)
+  pub month-answer : (r : Answer) (n : ℕ) → r ≡ placed (counted (λ x. fieldsIn x .start) 0 (listed (saidIn s) (recordsOf v))) n → r ≡ answerOf (listedMonth s y m n)
   unfolding listedMonth
   month-answer r n e =
       e
       ∙ ap (λ (x : List ℕ). placed (counted placeIn 0 (listed (saidIn s) (recordsOf x))) n) sorted-v
-      ∙ sym (found-answer s b (monthPostings s y m) bytes-are held (length (monthPostings s y m) * width) n)
+      ∙ sym (found-answer s b (monthPostings s y m) bytes-are held (length (monthPostings s y m) * recordWidth) n)
 
   pub month-items : (t u : List ℕ)
-      → u ≡ itemsPut (counted (λ x. rowIn x .start) 0 (listed (saidIn s) (recordsOf v))) (map itemRowIn (listed (saidIn s) (recordsOf v))) t
+      → u ≡ itemsPut (counted (λ x. fieldsIn x .start) 0 (listed (saidIn s) (recordsOf v))) (map itemRowIn (listed (saidIn s) (recordsOf v))) t
       → u ≡ itemsLeft (listedMonth s y m (length t)) t
   unfolding listedMonth
   month-items t u e =
       e
       ∙ ap (λ (x : List ℕ). itemsPut (counted placeIn 0 (listed (saidIn s) (recordsOf x))) (map itemRowIn (listed (saidIn s) (recordsOf x))) t) sorted-v
-      ∙ sym (found-left s b (monthPostings s y m) bytes-are held (length (monthPostings s y m) * width) t)
+      ∙ sym (found-left s b (monthPostings s y m) bytes-are held (length (monthPostings s y m) * recordWidth) t)
 
 pub ruleset month-laws = (month-ordered, month-answer, month-items)
 
@@ -74,9 +76,9 @@ pub ruleset month-laws = (month-ordered, month-answer, month-items)
 
 module _ (s : List ℕ) (y m room work spare : ℕ) where
   accepted-month : (rs : List Row) → isMonth m ≡ true → decided s y m room work spare (accepted rs)
-      ≡ cond (leb (length (postings (dated y m) rs) * 32) work && leb (length (postings (dated y m) rs) * 32) spare)
-      (settled (length (postings (dated y m) rs) * 32) room (items (said s) (postings (dated y m) rs)) (counted (λ r. r .start) 0 (items (said s) (postings (dated y m) rs))))
-      (Outcome.early 9 1 (length (postings (dated y m) rs) * 32))
+      ≡ cond (leb (length (postings (dated y m) rs) * recordWidth) work && leb (length (postings (dated y m) rs) * recordWidth) spare)
+      (settled (length (postings (dated y m) rs) * recordWidth) room (items (said s) (postings (dated y m) rs)) (counted (λ r. r .start) 0 (items (said s) (postings (dated y m) rs))))
+      (Outcome.early 9 1 (length (postings (dated y m) rs) * recordWidth))
   unfolding decided need totalsOf
   accepted-month rs e = rw e
 
@@ -86,17 +88,17 @@ module _ (s : List ℕ) (y m room work spare : ℕ) where
     postings-are = ap (λ (x : Reading). postings (dated y m) (rowsOf x)) (A .reads)
 
     in-month : decided s y m room work spare (plain s)
-        ≡ cond (leb (length (monthPostings s y m) * 32) work && leb (length (monthPostings s y m) * 32) spare) (listedMonth s y m room)
-        (Outcome.early 9 1 (length (monthPostings s y m) * 32))
+        ≡ cond (leb (length (monthPostings s y m) * recordWidth) work && leb (length (monthPostings s y m) * recordWidth) spare) (listedMonth s y m room)
+        (Outcome.early 9 1 (length (monthPostings s y m) * recordWidth))
     unfolding listedMonth
     in-month = ap (decided s y m room work spare) (A .reads) ∙ rw postings-are (accepted-month (A .rows) e)
 
-    module _ (n used : ℕ) (en : n ≡ length (monthPostings s y m)) (eu : used ≡ n * 32) where
+    module _ (n used : ℕ) (en : n ≡ length (monthPostings s y m)) (eu : used ≡ n * recordWidth) where
       too-short : (leb used work && leb used spare) ≡ false → decided s y m room work spare (plain s) ≡ Outcome.early 9 1 used
-      too-short h = let q : used ≡ length (monthPostings s y m) * 32 = omega arith in in-month ∙ rw (← q, h)
+      too-short h = let q : used ≡ length (monthPostings s y m) * recordWidth = omega arith in in-month ∙ rw (← q, h)
 
       enough : used ≤ work → used ≤ spare → decided s y m room work spare (plain s) ≡ listedMonth s y m room
-      enough h k = let q : used ≡ length (monthPostings s y m) * 32 = omega arith in in-month ∙ rw (← q, le-leb used work h, le-leb used spare k)
+      enough h k = let q : used ≡ length (monthPostings s y m) * recordWidth = omega arith in in-month ∙ rw (← q, le-leb used work h, le-leb used spare k)
 
       short-work : work < used → decided s y m room work spare (plain s) ≡ Outcome.early 9 1 used
       short-work h = too-short (rw (lt-leb used work h))
@@ -119,7 +121,7 @@ front-cleared w x v n h l e =
     let lx : length x ≡ n = l ∙ rw (a, length-take) (omega arith) in
     e ∙ ap (λ (y : List ℕ). replicate n 0 ++ y) (rw a (drop-at x (drop n w) n lx))
 
-module _ (s : List ℕ) (y m : ℕ) (A : Accepted s) (e : isMonth m ≡ true) (n used : ℕ) (en : n ≡ length (monthPostings s y m)) (eu : used ≡ n * 32) (t w u : List ℕ) where
+module _ (s : List ℕ) (y m : ℕ) (A : Accepted s) (e : isMonth m ≡ true) (n used : ℕ) (en : n ≡ length (monthPostings s y m)) (eu : used ≡ n * recordWidth) (t w u : List ℕ) where
   abbrev D : Outcome
   D = decided s y m (length t) (length w) (length u) (plain s)
 
@@ -131,10 +133,10 @@ module _ (s : List ℕ) (y m : ℕ) (A : Accepted s) (e : isMonth m ≡ true) (n
 
   module _ (h : used ≤ length w) (k : used ≤ length u) where
     -- the working spaces have room for what is asked of them
-    pub done-room : (length (take (used - 0) (drop 0 w)) ≡ length (monthPostings s y m) * 32) × (length (take (used - 0) (drop 0 w)) ≤ length (take (used - 0) (drop 0 u)))
+    pub done-room : (length (take (used - 0) (drop 0 w)) ≡ length (monthPostings s y m) * recordWidth) × (length (take (used - 0) (drop 0 w)) ≤ length (take (used - 0) (drop 0 u)))
     done-room = let a : used - 0 ≡ used = omega arith in rw (a, length-take, length-take) (omega arith)
 
-    used-is : used ≡ length (monthPostings s y m) * 32
+    used-is : used ≡ length (monthPostings s y m) * recordWidth
     used-is = omega arith
 
     cleared-month : (w₀ v : List ℕ) → v ≡ cleared used w₀ → v ≡ workLeft D w₀
@@ -142,7 +144,7 @@ module _ (s : List ℕ) (y m : ℕ) (A : Accepted s) (e : isMonth m ≡ true) (n
     cleared-month w₀ v q =
         q
         ∙ ap (λ (i : ℕ). cleared i w₀) used-is
-        ∙ sym (work-settled (length (monthPostings s y m) * 32) _ (length t) _ w₀)
+        ∙ sym (work-settled (length (monthPostings s y m) * recordWidth) _ (length t) _ w₀)
         ∙ ap (λ (x : Outcome). workLeft x w₀) (sym (enough s y m (length t) (length w) (length u) A e n used en eu h k))
 
     pub done-listed : (r : Answer) (t′ x w′ z u′ : List ℕ) → r ≡ answerOf (listedMonth s y m (length t)) → t′ ≡ itemsLeft (listedMonth s y m (length t)) t

@@ -1,5 +1,5 @@
 -- What a buffer of the postings' bytes comes to, sorted and listed, is what the postings themselves come to.
-use Prim.Native.Nat.{ℕ, suc, _+_, _*_, _/_}
+use Prim.Native.Nat.{ℕ, suc, _+_, _*_}
 use native.Mathlib.Nat.{add-zero}
 use native.Mathlib.Omega.{arith}
 use mathlib.Core.Path.{_≡_, refl, sym, ap, _∙_}
@@ -9,10 +9,13 @@ use lib.Dec.{leb}
 use lib.ListN.{length, drop, length-map}
 use Rattle.row.specs.declared.table.Row.{Row}
 use Rattle.row.specs.Work.{cleared}
-use Rattle.row.specs.Row.{rowBytes, rowsBytes, rowIn}
+use Rattle.row.specs.Row.{fieldBytes, fieldsIn}
 use Rattle.row.specs.steps.Holding.{Held}
-use Rattle.row.proofs.PourLaws.{length-rowBytes}
-use Rattle.row.proofs.ReadBack.{held-back}
+use Rattle.row.proofs.PouredLaws.{length-bytesOf}
+use Rattle.row.proofs.PourLaws.{length-fieldBytes}
+use Rattle.row.proofs.ReadBack.{fields-back}
+use Rattle.row.specs.Pouring.{bytesOf}
+use Rattle.order.specs.Records.{recordWidth, recordRoom, recordsBytes}
 use Rattle.order.specs.Order.{said, saidIn}
 use Rattle.order.specs.Sorted.{recordsOf, joined, sortedBytes}
 use Rattle.order.specs.Groups.{Item, listed, items, isKnown, counted}
@@ -28,28 +31,25 @@ use Rattle.totals.specs.declared.totals.Answer.{Answer}
 
 -- ---- rows as records
 
-rows-joined : (rs : List Row) → rowsBytes rs ≡ joined (map rowBytes rs)
-unfolding rowsBytes joined
+rows-joined : (rs : List Row) → recordsBytes rs ≡ joined (map fieldBytes rs)
+unfolding bytesOf joined
 rows-joined [] = refl
 rows-joined (r ∷ rs) = rw (rows-joined rs)
 
-rows-wide : (rs : List Row) → Wide (map rowBytes rs)
+rows-wide : (rs : List Row) → Wide (map fieldBytes rs)
 rows-wide [] = tt
-rows-wide (r ∷ rs) = (length-rowBytes r, rows-wide rs)
+rows-wide (r ∷ rs) = (length-fieldBytes r, rows-wide rs)
 
-pub length-rows : (rs : List Row) → length (rowsBytes rs) ≡ length rs * 32
-length-rows rs = ap length (rows-joined rs) ∙ length-joined (map rowBytes rs) (rows-wide rs) ∙ ap (λ (n : ℕ). n * 32) (length-map rs rowBytes)
-
-records-bytes : (rs : List Row) → recordsOf (rowsBytes rs) ≡ map rowBytes rs
+records-bytes : (rs : List Row) → recordsOf (recordsBytes rs) ≡ map fieldBytes rs
 records-bytes rs =
-    let n : length (rowsBytes rs) / 32 ≡ length (map rowBytes rs) = rw (length-rows rs, length-map) (omega arith) in
-    rw (n, rows-joined rs) (rw append-nil at (records-joined (map rowBytes rs) [] [] 0 (rows-wide rs) refl))
+    let n : recordRoom (recordsBytes rs) ≡ length (map fieldBytes rs) = rw (length-bytesOf recordWidth fieldBytes length-fieldBytes rs, length-map) (omega arith) in
+    rw (n, rows-joined rs) (rw append-nil at (records-joined (map fieldBytes rs) [] [] 0 (rows-wide rs) refl))
 
 -- rows whose fields are held: their bytes give them back
-row-back : (r : Row) → Held r → rowIn (rowBytes r) ≡ r
-row-back r h = ap rowIn (sym (append-nil (rowBytes r))) ∙ held-back r [] h
+row-back : (r : Row) → Held r → fieldsIn (fieldBytes r) ≡ r
+row-back r h = ap fieldsIn (sym (append-nil (fieldBytes r))) ∙ fields-back r [] h
 
-held-rows : (rs : List Row) → AllHeld rs → map rowIn (map rowBytes rs) ≡ rs
+held-rows : (rs : List Row) → AllHeld rs → map fieldsIn (map fieldBytes rs) ≡ rs
 held-rows [] h = refl
 held-rows (r ∷ rs) h = rw (row-back r (h .0), held-rows rs (h .1))
 
@@ -70,9 +70,9 @@ counted-length place k n (i ∷ is) e = go (isKnown (i .sum)) (place (i .first))
 module _ (used : ℕ) (is : List (Item Row)) where
   answer-settled : (room : ℕ) (c : Counted) → ((n : ℕ) → c ≡ Counted.Items n → n ≡ length is) → answerOf (settled used room is c) ≡ placed c room
   unfolding settled answerOf placed
-  answer-settled room (Counted.Items k) h = go (leb (k * 32) room)
+  answer-settled room (Counted.Items k) h = go (leb (k * recordWidth) room)
     where
-      go : (b : Bool) → answerOf (cond b (Outcome.gives used (map itemRow is)) (Outcome.late used 9 0 (k * 32))) ≡ cond b (Answer.Items k) (Answer.Refusal 9 0 (k * 32))
+      go : (b : Bool) → answerOf (cond b (Outcome.gives used (map itemRow is)) (Outcome.late used 9 0 (k * recordWidth))) ≡ cond b (Answer.Items k) (Answer.Refusal 9 0 (k * recordWidth))
       go true = ap Answer.Items (length-map is itemRow ∙ sym (h k refl))
       go false = refl
   answer-settled room (Counted.Large a) h = refl
@@ -80,44 +80,44 @@ module _ (used : ℕ) (is : List (Item Row)) where
   items-settled : (t : List ℕ) (c : Counted) → ((n : ℕ) → c ≡ Counted.Items n → n ≡ length is)
       → itemsLeft (settled used (length t) is c) t ≡ itemsPut c (map itemRow is) t
   unfolding settled itemsLeft itemsPut
-  items-settled t (Counted.Items k) h = go (leb (k * 32) (length t))
+  items-settled t (Counted.Items k) h = go (leb (k * recordWidth) (length t))
     where
-      go : (b : Bool) → itemsLeft (cond b (Outcome.gives used (map itemRow is)) (Outcome.late used 9 0 (k * 32))) t
-          ≡ cond b (rowsBytes (map itemRow is) ++ drop (k * 32) t) t
-      go true = ap (λ (n : ℕ). rowsBytes (map itemRow is) ++ drop (n * 32) t) (length-map is itemRow ∙ sym (h k refl))
+      go : (b : Bool) → itemsLeft (cond b (Outcome.gives used (map itemRow is)) (Outcome.late used 9 0 (k * recordWidth))) t
+          ≡ cond b (recordsBytes (map itemRow is) ++ drop (k * recordWidth) t) t
+      go true = ap (λ (n : ℕ). recordsBytes (map itemRow is) ++ drop (n * recordWidth) t) (length-map is itemRow ∙ sym (h k refl))
       go false = refl
   items-settled t (Counted.Large a) h = refl
 
   -- whatever was counted: a call that used the working spaces clears them
   pub work-settled : (room : ℕ) (c : Counted) (w : List ℕ) → workLeft (settled used room is c) w ≡ cleared used w
   unfolding settled workLeft
-  work-settled room (Counted.Items k) w = go (leb (k * 32) room)
+  work-settled room (Counted.Items k) w = go (leb (k * recordWidth) room)
     where
-      go : (b : Bool) → workLeft (cond b (Outcome.gives used (map itemRow is)) (Outcome.late used 9 0 (k * 32))) w ≡ cleared used w
+      go : (b : Bool) → workLeft (cond b (Outcome.gives used (map itemRow is)) (Outcome.late used 9 0 (k * recordWidth))) w ≡ cleared used w
       go true = refl
       go false = refl
   work-settled room (Counted.Large a) w = refl
 
 -- ---- the buffer b holds the bytes of the postings ps
 
-module _ (s b : List ℕ) (ps : List Row) (e : b ≡ rowsBytes ps) (h : AllHeld ps) where
+module _ (s b : List ℕ) (ps : List Row) (e : b ≡ recordsBytes ps) (h : AllHeld ps) where
   abbrev Found : List (Item (List ℕ))
   Found = listed (saidIn s) (recordsOf (sortedBytes s b))
 
   abbrev Wanted : List (Item Row)
   Wanted = items (said s) ps
 
-  found-items : map (onFirst rowIn) Found ≡ Wanted
+  found-items : map (onFirst fieldsIn) Found ≡ Wanted
   unfolding items
   found-items =
-      rw (records-sorted s b, e, records-bytes ps) (items-map (said s) rowIn (map rowBytes ps) ∙ ap (items (said s)) (held-rows ps h))
+      rw (records-sorted s b, e, records-bytes ps) (items-map (said s) fieldsIn (map fieldBytes ps) ∙ ap (items (said s)) (held-rows ps h))
 
   found-count : counted placeIn 0 Found ≡ counted (λ r. r .start) 0 Wanted
-  found-count = counted-map (λ (r : Row). r .start) rowIn 0 Found ∙ ap (counted (λ (r : Row). r .start) 0) found-items
+  found-count = counted-map (λ (r : Row). r .start) fieldsIn 0 Found ∙ ap (counted (λ (r : Row). r .start) 0) found-items
 
   found-rows : map itemRowIn Found ≡ map itemRow Wanted
   unfolding headRow onFirst
-  found-rows = sym (map-map itemRow (onFirst rowIn) Found) ∙ ap (map itemRow) found-items
+  found-rows = sym (map-map itemRow (onFirst fieldsIn) Found) ∙ ap (map itemRow) found-items
 
   number : (n : ℕ) → counted (λ r. r .start) 0 Wanted ≡ Counted.Items n → n ≡ length Wanted
   number n f = counted-length (λ (r : Row). r .start) 0 n Wanted f ∙ omega arith

@@ -1,5 +1,5 @@
 -- Laws of the listing: what the items' number tells.
-use Prim.Native.Nat.{ℕ, suc, _+_, _*_, _/_, _≤_, _<_}
+use Prim.Native.Nat.{ℕ, suc, _+_, _*_, _≤_, _<_}
 use native.Mathlib.Omega.{arith}
 use mathlib.Core.Path.{_≡_, sym, ap, _∙_}
 use mathlib.Core.Bool.{Bool, true, false, cond, not}
@@ -8,8 +8,9 @@ use mir.Syntax.{w64}
 use mir.Val.{Fits}
 use borrow.Author.Tests.{le-leb, lt-leb}
 use lib.ListN.{length, drop, length-map}
-use Rattle.row.specs.Row.{rowsBytes, pour}
-use Rattle.row.proofs.PourLaws.{pour-all}
+use Rattle.row.specs.Row.{fieldBytes}
+use Rattle.row.proofs.PouredLaws.{poured-all}
+use Rattle.order.specs.Records.{recordWidth, recordRoom, recordsBytes, putRecords}
 use Rattle.order.specs.Order.{saidIn, by}
 use Rattle.order.specs.Sorted.{recordsOf}
 use Rattle.order.specs.Groups.{those, alike, heads, Item, itemOf, listed, counted}
@@ -55,7 +56,7 @@ module _ (s t u : List ℕ) (c : Counted) (e : c ≡ counted placeIn 0 (listed (
     number : k ≡ length All
     number = counted-length placeIn 0 k All (sym e ∙ f) ∙ omega arith
 
-    few : k ≤ length t / 32
+    few : k ≤ recordRoom t
     unfolding listed
     few =
         omega (
@@ -63,30 +64,30 @@ module _ (s t u : List ℕ) (c : Counted) (e : c ≡ counted placeIn 0 (listed (
           number,
           length-map (heads (by (saidIn s)) (recordsOf t)) (itemOf (saidIn s) (recordsOf t)),
           heads-few (by (saidIn s)) (recordsOf t),
-          length-records t 0 (length t / 32),
+          length-records t 0 (recordRoom t),
         )
 
-    pub list-small : Fits w64 (length t) → Fits w64 (k * 32)
+    pub list-small : Fits w64 (length t) → Fits w64 (k * recordWidth)
     list-small h = omega (arith, few)
 
-    pub list-full : (r : Answer) → length u / 32 < k → r ≡ Answer.Refusal 9 0 (k * 32) → r ≡ placed (counted placeIn 0 All) (length u)
+    pub list-full : (r : Answer) → recordRoom u < k → r ≡ Answer.Refusal 9 0 (k * recordWidth) → r ≡ placed (counted placeIn 0 All) (length u)
     unfolding placed
-    list-full r h q = q ∙ rw (← e, f, lt-leb (k * 32) (length u) (omega arith))
+    list-full r h q = q ∙ rw (← e, f, lt-leb (k * recordWidth) (length u) (omega arith))
 
-    pub list-full-left : length u / 32 < k → u ≡ itemsPut (counted placeIn 0 All) (map itemRowIn All) u
+    pub list-full-left : recordRoom u < k → u ≡ itemsPut (counted placeIn 0 All) (map itemRowIn All) u
     unfolding itemsPut
-    list-full-left h = rw (← e, f, lt-leb (k * 32) (length u) (omega arith))
+    list-full-left h = rw (← e, f, lt-leb (k * recordWidth) (length u) (omega arith))
 
-    pub list-items : k ≤ length u / 32 → Answer.Items k ≡ placed (counted placeIn 0 All) (length u)
+    pub list-items : k ≤ recordRoom u → Answer.Items k ≡ placed (counted placeIn 0 All) (length u)
     unfolding placed
-    list-items h = rw (← e, f, le-leb (k * 32) (length u) (omega arith))
+    list-items h = rw (← e, f, le-leb (k * recordWidth) (length u) (omega arith))
 
-    pub list-put : (v : List ℕ) → k ≤ length u / 32 → v ≡ pour (map itemRowIn All) u → v ≡ itemsPut (counted placeIn 0 All) (map itemRowIn All) u
+    pub list-put : (v : List ℕ) → k ≤ recordRoom u → v ≡ putRecords (map itemRowIn All) u → v ≡ itemsPut (counted placeIn 0 All) (map itemRowIn All) u
     unfolding itemsPut
     list-put v h q =
         let n : length (map itemRowIn All) ≡ k = length-map All itemRowIn ∙ sym number in
-        let p : pour (map itemRowIn All) u ≡ rowsBytes (map itemRowIn All) ++ drop (k * 32) u =
-        pour-all (map itemRowIn All) u (rw n (omega arith)) ∙ ap (λ (j : ℕ). rowsBytes (map itemRowIn All) ++ drop (j * 32) u) n in
-        q ∙ p ∙ rw (← e, f, le-leb (k * 32) (length u) (omega arith))
+        let p : putRecords (map itemRowIn All) u ≡ recordsBytes (map itemRowIn All) ++ drop (k * recordWidth) u =
+        poured-all recordWidth fieldBytes (map itemRowIn All) u (rw n (omega arith)) ∙ ap (λ (j : ℕ). recordsBytes (map itemRowIn All) ++ drop (j * recordWidth) u) n in
+        q ∙ p ∙ rw (← e, f, le-leb (k * recordWidth) (length u) (omega arith))
 
 pub ruleset list-laws = (list-large, list-large-left, list-small, list-full, list-full-left, list-items, list-put)

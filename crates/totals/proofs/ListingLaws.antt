@@ -1,5 +1,5 @@
 -- Laws of the items of a sorted buffer, one after the other.
-use Prim.Native.Nat.{ℕ, _+_, _-_, _/_, _≤_, _<_}
+use Prim.Native.Nat.{ℕ, _+_, _-_, _≤_, _<_}
 use native.Mathlib.Omega.{arith}
 use mathlib.Core.Path.{_≡_, refl, sym, ap, _∙_}
 use mathlib.Core.List.{List, [], _∷_, _++_, map, map-append, append-assoc, append-nil}
@@ -8,9 +8,11 @@ use Rattle.decimal.specs.Exact.{twosOf}
 use Rattle.decimal.specs.declared.Value.{Value}
 use Rattle.row.specs.declared.table.Row.{Row}
 use Rattle.row.specs.Details.{millionths}
-use Rattle.row.specs.Row.{rowIn, pour, pourAt}
-use Rattle.row.proofs.PourLaws.{pour-none, pour-append, length-pourAt}
+use Rattle.row.specs.Row.{fieldBytes, fieldsIn}
+use Rattle.row.proofs.PouredLaws.{poured-none, poured-append, length-pouredAt}
+use Rattle.row.proofs.PourLaws.{length-fieldBytes}
 use Rattle.row.proofs.WriteLaws.{bits-known, bits-refused}
+use Rattle.order.specs.Records.{recordWidth, recordRoom, putRecords, putRecordsAt}
 use Rattle.order.specs.Order.{saidIn, by}
 use Rattle.order.specs.Sorted.{Ordered, recordAt, recordsFrom, recordsOf}
 use Rattle.order.specs.Sums.{summed}
@@ -27,7 +29,7 @@ use Rattle.totals.specs.steps.Listing.{headRow, itemRowIn}
 pub ruleset bits-laws = (bits-known, bits-refused)
 
 -- the fields of a first record, with a number and a sum
-pub head-told : (b : List ℕ) (n : ℕ) (v : Value) (r : Row) (x : ℕ) → r ≡ rowIn b → x ≡ twosOf (millionths v)
+pub head-told : (b : List ℕ) (n : ℕ) (v : Value) (r : Row) (x : ℕ) → r ≡ fieldsIn b → x ≡ twosOf (millionths v)
     → record { kind = r .kind; start = r .start; end = r .end; line = n; p = r .p; q = r .q; bits = x } ≡ headRow b n v
 unfolding headRow itemRow
 head-told b n v r x er ex = rw (er, ex)
@@ -39,23 +41,23 @@ pub ruleset head-laws = (head-told)
 pub record Putting (s t u₀ u : List ℕ) (i k : ℕ) : Type 0 where
   pub done : List (Item (List ℕ))
   pub whole : listed (saidIn s) (recordsOf t)
-      ≡ done ++ map (itemOf (saidIn s) (recordsOf t)) (heads (by (saidIn s)) (recordsFrom t i (length t / 32 - i)))
-  pub table : u ≡ pour (map itemRowIn done) u₀
+      ≡ done ++ map (itemOf (saidIn s) (recordsOf t)) (heads (by (saidIn s)) (recordsFrom t i (recordRoom t - i)))
+  pub table : u ≡ putRecords (map itemRowIn done) u₀
   pub count : k ≡ length done
-  pub ordered : Ordered (by (saidIn s)) (recordsFrom t i (length t / 32 - i))
-  pub fresh : i < length t / 32 → Fresh (by (saidIn s)) (by-either (saidIn s)) (by-through (saidIn s)) (recordAt t i) (recordsFrom t 0 i)
+  pub ordered : Ordered (by (saidIn s)) (recordsFrom t i (recordRoom t - i))
+  pub fresh : i < recordRoom t → Fresh (by (saidIn s)) (by-either (saidIn s)) (by-through (saidIn s)) (recordAt t i) (recordsFrom t 0 i)
   pub few : k ≤ i
-  pub within : i ≤ length t / 32
+  pub within : i ≤ recordRoom t
   pub same : length u ≡ length u₀
 
 pub putting-start : (s t u : List ℕ) → Ordered (by (saidIn s)) (recordsOf t) → Putting s t u u 0 0
 unfolding listed those recordsFrom
 putting-start s t u o =
-    let e : length t / 32 - 0 ≡ length t / 32 = omega arith in
+    let e : recordRoom t - 0 ≡ recordRoom t = omega arith in
     record {
       done = [];
       whole = rw e;
-      table = sym (pour-none u);
+      table = sym (poured-none recordWidth fieldBytes u);
       count = refl;
       ordered = rw e o;
       fresh = λ h z l. refl;
@@ -65,21 +67,21 @@ putting-start s t u o =
     }
 
 module _ (s t u₀ u : List ℕ) (i k : ℕ) (g : Putting s t u₀ u i k) where
-  all-done : length t / 32 ≤ i → listed (saidIn s) (recordsOf t) ≡ g .done
+  all-done : recordRoom t ≤ i → listed (saidIn s) (recordsOf t) ≡ g .done
   unfolding heads
-  all-done h = g .whole ∙ rw (records-none t i (length t / 32) h) (append-nil (g .done))
+  all-done h = g .whole ∙ rw (records-none t i (recordRoom t) h) (append-nil (g .done))
 
-  pub putting-end : length t / 32 ≤ i → u ≡ pour (map itemRowIn (listed (saidIn s) (recordsOf t))) u₀
-  putting-end h = g .table ∙ ap (λ (l : List (Item (List ℕ))). pour (map itemRowIn l) u₀) (sym (all-done h))
+  pub putting-end : recordRoom t ≤ i → u ≡ putRecords (map itemRowIn (listed (saidIn s) (recordsOf t))) u₀
+  putting-end h = g .table ∙ ap (λ (l : List (Item (List ℕ))). putRecords (map itemRowIn l) u₀) (sym (all-done h))
 
   -- the run at i goes to e, and has the sum x
-  pub putting-on : (h : i < length t / 32) (e : ℕ) (x : Value) (r : Row) (v : List ℕ) → e ≡ runEnd s t i
-      → x ≡ summed (map valueIn (recordsFrom t i (e - i))) → r ≡ headRow (recordAt t i) (e - i) x → v ≡ pourAt k (r ∷ []) u
-      → i < e → e ≤ length t / 32 → Putting s t u₀ v e (k + 1)
+  pub putting-on : (h : i < recordRoom t) (e : ℕ) (x : Value) (r : Row) (v : List ℕ) → e ≡ runEnd s t i
+      → x ≡ summed (map valueIn (recordsFrom t i (e - i))) → r ≡ headRow (recordAt t i) (e - i) x → v ≡ putRecordsAt k (r ∷ []) u
+      → i < e → e ≤ recordRoom t → Putting s t u₀ v e (k + 1)
   putting-on h e x r v ee ex er ev l m =
       let it : Item (List ℕ) = record { first = recordAt t i; count = e - i; sum = x } in
-      let rest = map (itemOf (saidIn s) (recordsOf t)) (heads (by (saidIn s)) (recordsFrom t e (length t / 32 - e))) in
-      let q : map (itemOf (saidIn s) (recordsOf t)) (heads (by (saidIn s)) (recordsFrom t i (length t / 32 - i))) ≡ it ∷ rest =
+      let rest = map (itemOf (saidIn s) (recordsOf t)) (heads (by (saidIn s)) (recordsFrom t e (recordRoom t - e))) in
+      let q : map (itemOf (saidIn s) (recordsOf t)) (heads (by (saidIn s)) (recordsFrom t i (recordRoom t - i))) ≡ it ∷ rest =
       rw (runs-follow s t i h (g .ordered), item-there s t i h (g .ordered) (g .fresh h) x (rw ee at ex), ee) in
       let rows = map itemRowIn (g .done) in
       let f : map itemRowIn (g .done ++ (it ∷ [])) ≡ rows ++ (r ∷ []) = rw (map-append itemRowIn (g .done) (it ∷ []), er) in
@@ -88,16 +90,16 @@ module _ (s t u₀ u : List ℕ) (i k : ℕ) (g : Putting s t u₀ u i k) where
         done = g .done ++ (it ∷ []);
         whole = g .whole ∙ ap (λ (l : List (Item (List ℕ))). g .done ++ l) q ∙ sym (append-assoc (g .done) (it ∷ []) rest);
         table = ev
-            ∙ ap (λ (n : ℕ). pourAt n (r ∷ []) u) c
-            ∙ ap (pourAt (length rows) (r ∷ [])) (g .table)
-            ∙ sym (pour-append rows (r ∷ []) u₀)
-            ∙ ap (λ (l : List Row). pour l u₀) (sym f);
+            ∙ ap (λ (n : ℕ). putRecordsAt n (r ∷ []) u) c
+            ∙ ap (putRecordsAt (length rows) (r ∷ [])) (g .table)
+            ∙ sym (poured-append recordWidth fieldBytes length-fieldBytes rows (r ∷ []) u₀)
+            ∙ ap (λ (l : List Row). putRecords l u₀) (sym f);
         count = rw (length-append (g .done) (it ∷ [])) (ap (λ (n : ℕ). n + 1) (g .count));
         ordered = rw ee (ordered-there s t i h (g .ordered));
         fresh = rw ee (fresh-there s t i h (g .ordered) (g .fresh h));
         few = omega (arith, g .few);
         within = m;
-        same = ap length ev ∙ length-pourAt k (r ∷ []) u ∙ g .same;
+        same = ap length ev ∙ length-pouredAt recordWidth fieldBytes length-fieldBytes k (r ∷ []) u ∙ g .same;
       }
 
 pub ruleset putting-laws = (putting-start, putting-end, putting-on)

@@ -8,10 +8,13 @@ use mir.Val.{Fits}
 use lib.ListN.{length, length-append}
 use Rattle.text.specs.Permitted.{sizeLimit}
 use Rattle.row.specs.declared.table.Row.{Row}
-use Rattle.row.specs.Row.{pour, pourAt}
 use Rattle.row.specs.steps.Holding.{Held}
-use Rattle.row.proofs.PourLaws.{pour-append, length-pour}
+use Rattle.row.specs.Row.{fieldBytes}
+use Rattle.row.proofs.PouredLaws.{poured-append, length-poured}
+use Rattle.row.proofs.PourLaws.{length-fieldBytes}
+use Rattle.row.specs.Pouring.{poured}
 use Rattle.ledger.proofs.ReadLaws.{plain-reads}
+use Rattle.order.specs.Records.{recordWidth, putRecords, putRecordsAt}
 use Rattle.walk.specs.declared.step.Cursor.{Cursor}
 use Rattle.walk.specs.declared.step.Turn.{Turn}
 use Rattle.walk.specs.Postings.{dated, postings}
@@ -32,7 +35,7 @@ pub record Passed (s : List ℕ) (y m : ℕ) (c : Cursor) (n : ℕ) : Type 0 whe
 -- and were put into the table t, which was u
 pub record Putting (s : List ℕ) (y m : ℕ) (u : List ℕ) (c : Cursor) (n : ℕ) (t : List ℕ) : Type 0 where
   pub passed : Passed s y m c n
-  pub table : t ≡ pour (passed .found) u
+  pub table : t ≡ putRecords (passed .found) u
 
 held-append : (xs : List Row) (p : Row) → AllHeld xs → Held p → AllHeld (xs ++ p ∷ [])
 held-append [] p h k = (k, tt)
@@ -53,7 +56,7 @@ module _ (s : List ℕ) (y m : ℕ) where
       }
 
   pub put-start : (u : List ℕ) → Accepted s → Putting s y m u (outer 0 0) 0 u
-  unfolding pour pass-start
+  unfolding poured pass-start
   put-start u A = record { passed = pass-start A; table = refl }
 
   module _ (c : Cursor) (n : ℕ) (P : Passed s y m c n) where
@@ -87,12 +90,12 @@ module _ (s : List ℕ) (y m : ℕ) where
         found-less = f .4
 
         -- the posting is put behind those that were found
-        pub found-put : (u v w : List ℕ) → v ≡ pour (P .found) u → w ≡ pourAt n (p ∷ []) v → Putting s y m u d (n + 1) w
+        pub found-put : (u v w : List ℕ) → v ≡ putRecords (P .found) u → w ≡ putRecordsAt n (p ∷ []) v → Putting s y m u d (n + 1) w
         unfolding found-again
         found-put u v w e h =
             record {
               passed = found-again;
-              table = h ∙ ap (λ (k : ℕ). pourAt k (p ∷ []) v) (P .count) ∙ ap (pourAt (length (P .found)) (p ∷ [])) e ∙ sym (pour-append (P .found) (p ∷ []) u);
+              table = h ∙ ap (λ (k : ℕ). putRecordsAt k (p ∷ []) v) (P .count) ∙ ap (putRecordsAt (length (P .found)) (p ∷ [])) e ∙ sym (poured-append recordWidth fieldBytes length-fieldBytes (P .found) (p ∷ []) u);
             }
 
       module _ (d : Cursor) (q : t ≡ Turn.On d) where
@@ -129,8 +132,8 @@ module _ (s : List ℕ) (y m : ℕ) where
         pub done-held : AllHeld (monthPostings s y m)
         done-held = subst AllHeld (sym ended) (P .held)
 
-        pub done-put : (u v : List ℕ) → v ≡ pour (P .found) u → v ≡ pour (monthPostings s y m) u
-        done-put u v e = e ∙ ap (λ (x : List Row). pour x u) (sym ended)
+        pub done-put : (u v : List ℕ) → v ≡ putRecords (P .found) u → v ≡ putRecords (monthPostings s y m) u
+        done-put u v e = e ∙ ap (λ (x : List Row). putRecords x u) (sym ended)
 
 pub ruleset count-laws = (pass-start, pass-room, found-fits, found-again, found-less, on-again, on-less, pass-done, done-few)
 
@@ -138,7 +141,7 @@ pub ruleset count-laws = (pass-start, pass-room, found-fits, found-again, found-
 
 module _ (s : List ℕ) (y m : ℕ) (u : List ℕ) (c : Cursor) (n : ℕ) (t : List ℕ) (Q : Putting s y m u c n t) where
   pub putting-length : length t ≡ length u
-  putting-length = ap length (Q .table) ∙ length-pour (Q .passed .found) u
+  putting-length = ap length (Q .table) ∙ length-poured recordWidth fieldBytes length-fieldBytes (Q .passed .found) u
 
   pub putting-room : (length s ≤ sizeLimit) × Standing (dated y m) s c
   putting-room = pass-room s y m c n (Q .passed)
@@ -148,7 +151,7 @@ module _ (s : List ℕ) (y m : ℕ) (u : List ℕ) (c : Cursor) (n : ℕ) (t : L
       pub putting-fits : Fits w64 (n + 1)
       putting-fits = found-fits s y m c n (Q .passed) r T p d q
 
-      pub putting-again : (w : List ℕ) → w ≡ pourAt n (p ∷ []) t → Putting s y m u d (n + 1) w
+      pub putting-again : (w : List ℕ) → w ≡ putRecordsAt n (p ∷ []) t → Putting s y m u d (n + 1) w
       putting-again w h = found-put s y m c n (Q .passed) r T p d q u t w (Q .table) h
 
       pub putting-less : left s d < left s c
@@ -162,7 +165,7 @@ module _ (s : List ℕ) (y m : ℕ) (u : List ℕ) (c : Cursor) (n : ℕ) (t : L
       pub putting-on-less : left s d < left s c
       putting-on-less = on-less s y m c n (Q .passed) r T d q
 
-    pub putting-done : r ≡ Turn.Done → t ≡ pour (monthPostings s y m) u
+    pub putting-done : r ≡ Turn.Done → t ≡ putRecords (monthPostings s y m) u
     putting-done q = done-put s y m c n (Q .passed) r T q u t (Q .table)
 
     pub putting-held : r ≡ Turn.Done → AllHeld (monthPostings s y m)

@@ -9,9 +9,9 @@ use lib.Dec.{leb}
 use lib.ListN.{length, drop}
 use Rattle.decimal.specs.Exact.{twosOf}
 use Rattle.row.specs.declared.table.Row.{Row}
-use Rattle.row.specs.Row.{rowsBytes, width}
 use Rattle.row.specs.Work.{cleared}
 use Rattle.row.specs.Details.{millionths}
+use Rattle.order.specs.Records.{recordWidth, recordsBytes}
 use Rattle.ledger.specs.Plain.{Reading, accepted, denied}
 use Rattle.order.specs.Order.{said}
 use Rattle.order.specs.Groups.{Item, items, counted}
@@ -43,11 +43,11 @@ isMonth m = leb 1 m && leb m 12
 
 -- what each working space must hold: 32 bytes for each posting of the month, stated or not
 unfoldable pub need : ℕ → ℕ → List Row → ℕ
-need y m rs = length (postings (dated y m) rs) * width
+need y m rs = length (postings (dated y m) rs) * recordWidth
 
 -- 6 at the start of the first item whose sum is too large, then 9 for the room of the items, in bytes
 unfoldable pub settled : ℕ → ℕ → List (Item Row) → Counted → Outcome
-settled used room is (Counted.Items k) = cond (leb (k * width) room) (gives used (map itemRow is)) (late used 9 0 (k * width))
+settled used room is (Counted.Items k) = cond (leb (k * recordWidth) room) (gives used (map itemRow is)) (late used 9 0 (k * recordWidth))
 settled used room is (Counted.Large a) = late used 6 a 0
 
 -- plain reading's refusals, 15 for a month outside 1 to 12, 9 at place 1 for a working space that is short, and those;
@@ -71,7 +71,7 @@ answerOf (gives used rs) = Answer.Items (length rs)
 unfoldable pub itemsLeft : Outcome → List ℕ → List ℕ
 itemsLeft (early n p c) t = t
 itemsLeft (late used n p c) t = t
-itemsLeft (gives used rs) t = rowsBytes rs ++ drop (length rs * width) t
+itemsLeft (gives used rs) t = recordsBytes rs ++ drop (length rs * recordWidth) t
 
 -- what was used of a working space is zeros
 unfoldable pub workLeft : Outcome → List ℕ → List ℕ

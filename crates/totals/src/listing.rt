@@ -1,17 +1,17 @@
 // The items of sorted records: each is the first record of a run, with the run's number and sum.
 use decimal::Value;
 use order::compare;
+use order::record;
+use order::record::RECORD;
 use order::runs;
-use row::table;
 use row::table::Row;
-use row::table::WIDTH;
 ghost use mathlib.Core.Path.{_≡_};
 ghost use mathlib.Core.List.{map};
 ghost use Prim.Native.Nat.{_/_, _<_};
 ghost use lib.ListN.{length};
 ghost use Rattle.decimal.specs.Exact.{twosOf};
 ghost use Rattle.row.specs.Details.{millionths};
-ghost use Rattle.row.specs.Row.{pour};
+ghost use Rattle.order.specs.Records.{recordRoom, putRecords};
 ghost use Rattle.order.specs.Sorted.{Ordered, recordAt, recordsOf};
 ghost use Rattle.order.specs.Order.{saidIn, by};
 ghost use Rattle.order.specs.Groups.{listed};
@@ -35,7 +35,7 @@ fn sum_bits(v: Value) -> usize
 
 // The row of the item whose first record is record i.
 fn head_row(t: &[u8], i: usize, count: usize, sum: Value) -> Row
-    requires { ⌜ i < length (now t) / 32 ⌝ }
+    requires { ⌜ i < recordRoom (now t) ⌝ }
     ensures { λ r. ⌜ r ≡ headRow (recordAt (now (t .entry)) i) count sum ⌝ }
 {
     let first = compare::row_at(t, i);
@@ -53,9 +53,9 @@ fn head_row(t: &[u8], i: usize, count: usize, sum: Value) -> Row
 // The items of a sorted buffer, one after the other, where they fit.
 pub fn put_items(s: &[u8], t: &[u8], items: &mut [u8])
     requires { ⌜ Ordered (by (saidIn (now s))) (recordsOf (now t)) ⌝ }
-    ensures { λ _. ⌜ now (items .exit) ≡ pour (map itemRowIn (listed (saidIn (now (s .entry))) (recordsOf (now (t .entry))))) (now (items .entry)) ⌝ }
+    ensures { λ _. ⌜ now (items .exit) ≡ putRecords (map itemRowIn (listed (saidIn (now (s .entry))) (recordsOf (now (t .entry))))) (now (items .entry)) ⌝ }
 {
-    let n = t.len() / WIDTH;
+    let n = t.len() / RECORD;
     let mut i = 0;
     let mut k = 0;
     while i < n {
@@ -63,7 +63,7 @@ pub fn put_items(s: &[u8], t: &[u8], items: &mut [u8])
         let end = run.end;
         let sum = run.sum;
         let row = head_row(t, i, end - i, sum);
-        table::put_row(items, k, row);
+        record::put_record(items, k, row);
         i = end;
         k += 1;
     }

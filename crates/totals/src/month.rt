@@ -1,5 +1,5 @@
 // The postings of a month in a ledger that plain reading accepts: counted, and put as records.
-use row::table;
+use order::record;
 use walk::step;
 use walk::step::Cursor;
 use walk::step::Turn;
@@ -7,7 +7,7 @@ ghost use mathlib.Core.Path.{_≡_};
 ghost use Prim.Native.Nat.{_≤_};
 ghost use lib.ListN.{length};
 ghost use Rattle.text.specs.Permitted.{sizeLimit};
-ghost use Rattle.row.specs.Row.{pour};
+ghost use Rattle.order.specs.Records.{putRecords};
 ghost use Rattle.totals.specs.steps.Months.{Accepted, AllHeld, monthPostings};
 
 // How many they are.
@@ -40,7 +40,7 @@ pub fn count(ledger: &[u8], year: usize, month: usize) -> usize
 // One after the other, where they fit.
 pub fn put(ledger: &[u8], year: usize, month: usize, records: &mut [u8])
     requires { ⌜ Accepted (now ledger) ⌝ }
-    ensures bytes { λ _. ⌜ now (records .exit) ≡ pour (monthPostings (now (ledger .entry)) year month) (now (records .entry)) ⌝ }
+    ensures bytes { λ _. ⌜ now (records .exit) ≡ putRecords (monthPostings (now (ledger .entry)) year month) (now (records .entry)) ⌝ }
     ensures held { λ _. ⌜ AllHeld (monthPostings (now (ledger .entry)) year month) ⌝ }
 {
     let mut c = Cursor {
@@ -53,7 +53,7 @@ pub fn put(ledger: &[u8], year: usize, month: usize, records: &mut [u8])
         let t = step::advance(ledger, c, year, month);
         match t {
             Turn::Found(p, d) => {
-                table::put_row(records, n, p);
+                record::put_record(records, n, p);
                 n += 1;
                 c = d;
             }

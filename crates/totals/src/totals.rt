@@ -4,17 +4,18 @@ use crate::month;
 use ledger::read;
 use ledger::scan::Profile;
 use ledger::scan::Scan;
+use order::record::RECORD;
 use order::runs;
 use order::runs::Counted;
 use order::sort;
-use row::table::WIDTH;
 use row::work;
 ghost use mathlib.Core.Path.{_≡_};
 ghost use mathlib.Core.List.{map};
 ghost use mathlib.Core.Bool.{true};
 ghost use Prim.Native.Nat.{_*_, _≤_};
 ghost use lib.ListN.{length};
-ghost use Rattle.row.specs.Row.{rowIn};
+ghost use Rattle.row.specs.Row.{fieldsIn};
+ghost use Rattle.order.specs.Records.{recordWidth};
 ghost use Rattle.ledger.specs.Plain.{plain};
 ghost use Rattle.order.specs.Sorted.{Ordered, recordsOf};
 ghost use Rattle.order.specs.Order.{saidIn, by};
@@ -45,16 +46,16 @@ fn refusal(number: usize, place: usize, count: usize) -> Answer
 // Sorted records: their items are judged, then counted, then written.
 fn list(s: &[u8], t: &[u8], items: &mut [u8]) -> Answer
     requires { ⌜ Ordered (by (saidIn (now s))) (recordsOf (now t)) ⌝ }
-    ensures answer { λ r. ⌜ r ≡ placed (counted (λ b. rowIn b .start) 0 (listed (saidIn (now (s .entry))) (recordsOf (now (t .entry))))) (length (now (items .entry))) ⌝ }
-    ensures bytes { λ _. ⌜ now (items .exit) ≡ itemsPut (counted (λ b. rowIn b .start) 0 (listed (saidIn (now (s .entry))) (recordsOf (now (t .entry)))))
+    ensures answer { λ r. ⌜ r ≡ placed (counted (λ b. fieldsIn b .start) 0 (listed (saidIn (now (s .entry))) (recordsOf (now (t .entry))))) (length (now (items .entry))) ⌝ }
+    ensures bytes { λ _. ⌜ now (items .exit) ≡ itemsPut (counted (λ b. fieldsIn b .start) 0 (listed (saidIn (now (s .entry))) (recordsOf (now (t .entry)))))
         (map itemRowIn (listed (saidIn (now (s .entry))) (recordsOf (now (t .entry))))) (now (items .entry)) ⌝ }
 {
     let c = runs::count_runs(s, t);
     match c {
         Counted::Large(a) => refusal(6, a, 0),
         Counted::Items(k) => {
-            if items.len() / WIDTH < k {
-                return refusal(9, 0, k * WIDTH);
+            if items.len() / RECORD < k {
+                return refusal(9, 0, k * RECORD);
             }
             listing::put_items(s, t, items);
             Answer::Items(k)
@@ -71,7 +72,7 @@ fn list_month(
     work: &mut [u8],
     spare: &mut [u8],
 ) -> Answer
-    requires { ⌜ Accepted (now ledger) × (length (now work) ≡ length (monthPostings (now ledger) year month) * 32) × (length (now work) ≤ length (now spare)) ⌝ }
+    requires { ⌜ Accepted (now ledger) × (length (now work) ≡ length (monthPostings (now ledger) year month) * recordWidth) × (length (now work) ≤ length (now spare)) ⌝ }
     ensures answer { λ r. ⌜ r ≡ answerOf (listedMonth (now (ledger .entry)) year month (length (now (items .entry)))) ⌝ }
     ensures items { λ _. ⌜ now (items .exit) ≡ itemsLeft (listedMonth (now (ledger .entry)) year month (length (now (items .entry)))) (now (items .entry)) ⌝ }
 {
@@ -100,7 +101,7 @@ fn month_totals(
         (now (items .entry)) (now (work .entry)) (now (spare .entry)) r (now (items .exit)) (now (work .exit)) (now (spare .exit)) ⌝ }
 {
     let n = month::count(ledger, year, month);
-    let used = n * WIDTH;
+    let used = n * RECORD;
     if work.len() < used {
         return refusal(9, 1, used);
     }

@@ -1,5 +1,5 @@
 -- A walk's turns in the body of a transaction, whichever turn it is, and its start.
-use Prim.Native.Nat.{ℕ, _+_, _-_, _≤_, _<_}
+use Prim.Native.Nat.{ℕ, _+_, _*_, _-_, _≤_, _<_}
 use native.Mathlib.Omega.{arith}
 use mathlib.Core.Path.{_≡_, refl, sym, _∙_, ap, subst}
 use mathlib.Core.Bool.{Bool, true, false}
@@ -15,7 +15,7 @@ use Rattle.row.specs.declared.table.Row.{Row}
 use Rattle.row.specs.declared.writer.Out.{Out}
 use Rattle.row.specs.declared.writer.Ran.{Ran}
 use Rattle.row.specs.Details.{laid}
-use Rattle.row.specs.Row.{pourAt}
+use Rattle.row.specs.Row.{width, pourAt}
 use Rattle.row.specs.steps.Writing.{Did, Poured, outs}
 use Rattle.row.specs.steps.Holding.{Held}
 use Rattle.row.proofs.OutLaws.{rows-outs}
@@ -139,7 +139,7 @@ module _ (wanted : ℕ → Bool) (s : List ℕ) (at from : ℕ) where
     small : length s ≤ sizeLimit → from + length u ≤ sizeLimit
     small l = rw length-drop (omega (arith, W .past, S .inside))
 
-  found-of : (e : ℕ) (xs : List Detail) → bodyStep u i ≡ To e xs → (length xs ≡ 0 → ⊥) → (t v : List ℕ) (zs : List Row) → length t ≡ 64
+  found-of : (e : ℕ) (xs : List Detail) → bodyStep u i ≡ To e xs → (length xs ≡ 0 → ⊥) → (t v : List ℕ) (zs : List Row) → length t ≡ 2 * width
       → v ≡ pourAt 0 (map (laid from) xs ++ zs) t → length s ≤ sizeLimit → (p : Row) → p ≡ postedIn v (length xs)
       → Turned wanted s (inner at from) (Turn.Found p (inner (from + e) from))
   found-of e [] q n t v zs lt w l p pe = absurd (n refl)
@@ -190,7 +190,7 @@ module _ (wanted : ℕ → Bool) (s : List ℕ) (at from : ℕ) where
               (subst (Stands wanted s (inner (from + e) from)) (sym w) (on e (z .0) (z .1) ps S), omega (arith, b), omega (arith, b));
         }
 
-    pub line-found : (e : ℕ) (m : Out) → x ≡ Ran.To e m → (e ≡ i → ⊥) → (m .rows ≡ 0 → ⊥) → length t ≡ 64 → length s ≤ sizeLimit → (p : Row) → p ≡ postedIn v (m .rows)
+    pub line-found : (e : ℕ) (m : Out) → x ≡ Ran.To e m → (e ≡ i → ⊥) → (m .rows ≡ 0 → ⊥) → length t ≡ 2 * width → length s ≤ sizeLimit → (p : Row) → p ≡ postedIn v (m .rows)
         → Turned wanted s (inner at from) (Turn.Found p (inner (from + e) from))
     line-found e m q b k lt l p pe =
         let z = step-read e m q b in

@@ -1,5 +1,5 @@
 -- What stands in the table of two rows after a posting was read is the posting of its rows, and is held by its bytes.
-use Prim.Native.Nat.{ℕ, suc, _+_, _-_, _≤_, _<_}
+use Prim.Native.Nat.{ℕ, suc, _+_, _*_, _-_, _≤_, _<_}
 use native.Mathlib.Omega.{arith}
 use mathlib.Core.Path.{_≡_, refl, sym, _∙_, ap}
 use mathlib.Core.Bool.{Bool, true, false, cond}
@@ -29,9 +29,9 @@ module _ (t : List ℕ) (n a e : ℕ) (own : Row) (eo : own ≡ rowIn t) (ea : a
   unfolding postedIn posting unstated
   seen-alone h = rw (le-ltb 1 n h, ea, ee, eo)
 
-  module _ (h : 1 < n) (next : Row) (ex : next ≡ rowIn (take (length t - 32) (drop 32 t))) where
+  module _ (h : 1 < n) (next : Row) (ex : next ≡ rowIn (take (length t - width) (drop width t))) where
     en : next ≡ rowIn (drop width t)
-    en = ex ∙ ap rowIn (rest-of t 32)
+    en = ex ∙ ap rowIn (rest-of t width)
 
     pub seen-other : (next .kind ≡ 26 → ⊥) → record { kind = 51; start = a; end = e; line = 0; p = 0; q = 0; bits = 0 } ≡ postedIn t n
     unfolding postedIn posting unstated
@@ -101,7 +101,7 @@ posting-back x y i j k low rs =
     go true w = let l = low (eqb-true (y .kind) 26 w) in (stated-back x y i j (l .0) (l .1) (l .2), stated-held x y i j (l .0) (l .1) (l .2))
     go false w = (unstated-back x i j, unstated-held x i j)
 
--- ---- a posting whose rows were poured into a table of 64 bytes
+-- ---- a posting whose rows were poured into a table of two rows
 
 module _ (from n : ℕ) (small : from + n ≤ sizeLimit) (x : Detail) where
   abbrev X : Row
@@ -117,15 +117,15 @@ module _ (from n : ℕ) (small : from + n ≤ sizeLimit) (x : Detail) where
     x-end = omega (arith, P .end)
 
   -- with no row behind it in its step
-  alone : (t u : List ℕ) (zs more : List Row) → length t ≡ 64 → Post n x [] → u ≡ pourAt 0 (map (laid from) (x ∷ []) ++ zs) t → Ahead more
+  alone : (t u : List ℕ) (zs more : List Row) → length t ≡ 2 * width → Post n x [] → u ≡ pourAt 0 (map (laid from) (x ∷ []) ++ zs) t → Ahead more
       → (postedIn u 1 ≡ posting X more) × Held (posting X more)
   unfolding postedIn posting
   alone t u zs more len P e h =
-      let b : u ≡ rowBytes X ++ pour zs (drop 32 t) = e ∙ pourAt-zero (X ∷ zs) t ∙ pour-fits X zs t (omega arith) in
+      let b : u ≡ rowBytes X ++ pour zs (drop width t) = e ∙ pourAt-zero (X ∷ zs) t ∙ pour-fits X zs t (omega arith) in
       let o = x-start [] P in
       let c = x-end [] P in
       let z = posting-bare X more h in
-      (ap unstated (ap rowIn b ∙ row-in X (pour zs (drop 32 t))) ∙ unstated-back X o c ∙ sym z, rw z (unstated-held X o c))
+      (ap unstated (ap rowIn b ∙ row-in X (pour zs (drop width t))) ∙ unstated-back X o c ∙ sym z, rw z (unstated-held X o c))
 
   module _ (y : Detail) (us : List Detail) (P : Post n x (y ∷ us)) where
     abbrev Y : Row
@@ -154,22 +154,22 @@ module _ (from n : ℕ) (small : from + n ≤ sizeLimit) (x : Detail) where
       unfolding laid rowOf
       y-bits = bits-low (y .value) (A .small)
 
-    module _ (t u : List ℕ) (zs : List Row) (len : length t ≡ 64) (e : u ≡ pourAt 0 (map (laid from) (x ∷ y ∷ us) ++ zs) t) where
+    module _ (t u : List ℕ) (zs : List Row) (len : length t ≡ 2 * width) (e : u ≡ pourAt 0 (map (laid from) (x ∷ y ∷ us) ++ zs) t) where
       abbrev last : List ℕ
-      last = pour (map (laid from) us ++ zs) (drop 32 (drop 32 t))
+      last = pour (map (laid from) us ++ zs) (drop width (drop width t))
 
       both : u ≡ rowBytes X ++ (rowBytes Y ++ last)
       both =
           e
           ∙ pourAt-zero (X ∷ Y ∷ map (laid from) us ++ zs) t
           ∙ pour-fits X (Y ∷ map (laid from) us ++ zs) t (omega arith)
-          ∙ ap (λ (z : List ℕ). rowBytes X ++ z) (pour-fits Y (map (laid from) us ++ zs) (drop 32 t) (rw length-drop (omega arith)))
+          ∙ ap (λ (z : List ℕ). rowBytes X ++ z) (pour-fits Y (map (laid from) us ++ zs) (drop width t) (rw length-drop (omega arith)))
 
       first : rowIn u ≡ wrapped X
       first = ap rowIn both ∙ row-in X (rowBytes Y ++ last)
 
       second : rowIn (drop width u) ≡ wrapped Y
-      second = ap (λ (z : List ℕ). rowIn (drop width z)) both ∙ ap rowIn (drop-at (rowBytes X) (rowBytes Y ++ last) 32 (length-rowBytes X)) ∙ row-in Y last
+      second = ap (λ (z : List ℕ). rowIn (drop width z)) both ∙ ap rowIn (drop-at (rowBytes X) (rowBytes Y ++ last) width (length-rowBytes X)) ∙ row-in Y last
 
       followed : (more : List Row) → (postedIn u (suc (suc (length us))) ≡ posting X (map (laid from) (y ∷ us) ++ more)) × Held (posting X (map (laid from) (y ∷ us) ++ more))
       unfolding postedIn
@@ -179,7 +179,7 @@ module _ (from n : ℕ) (small : from + n ≤ sizeLimit) (x : Detail) where
           let z = posting-back X Y (x-start (y ∷ us) P) (x-end (y ∷ us) P) (omega (arith, kind-is, kind-low)) low (map (laid from) us ++ more) in
           (rw (lt-ltb 1 (suc (suc (length us))) (omega arith), first, second) (z .0), z .1)
 
-  pub seen : (t u : List ℕ) (zs : List Row) → length t ≡ 64 → (us : List Detail) (more : List Row) → Post n x us → u ≡ pourAt 0 (map (laid from) (x ∷ us) ++ zs) t
+  pub seen : (t u : List ℕ) (zs : List Row) → length t ≡ 2 * width → (us : List Detail) (more : List Row) → Post n x us → u ≡ pourAt 0 (map (laid from) (x ∷ us) ++ zs) t
       → Ahead more → (postedIn u (length (x ∷ us)) ≡ posting X (map (laid from) us ++ more)) × Held (posting X (map (laid from) us ++ more))
   seen t u zs len [] more P e h = alone t u zs more len P e h
   seen t u zs len (y ∷ us) more P e h = followed y us P t u zs len e more

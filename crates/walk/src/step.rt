@@ -12,11 +12,12 @@ use text::date::Dated;
 use text::run;
 use text::run::Class;
 ghost use mathlib.Core.Path.{_≡_};
-ghost use Prim.Native.Nat.{_≤_};
+ghost use Prim.Native.Nat.{_*_, _≤_};
 ghost use lib.ListN.{length};
 ghost use Rattle.text.specs.Dates.{dateAt};
 ghost use Rattle.text.specs.Run.{blanks};
 ghost use Rattle.text.specs.Permitted.{sizeLimit};
+ghost use Rattle.row.specs.Row.{width};
 ghost use Rattle.transaction.specs.steps.Heads.{headOf};
 ghost use Rattle.walk.specs.Postings.{dated};
 ghost use Rattle.walk.specs.steps.Walks.{dateOf, headEnd, postedIn, outer, inner, Standing, Turned};
@@ -28,6 +29,9 @@ const UNSTATED: usize = 51;
 
 // The bytes of a date.
 const DATE: usize = 10;
+
+// A posting and the row directly after it.
+const TWO_ROWS: usize = 2 * WIDTH;
 
 // Where a walk stands: at an entry, or inside the body of the transaction that starts at `from`.
 pub struct Cursor {
@@ -126,7 +130,7 @@ fn entry_turn(s: &[u8], at: usize, from: usize, year: usize, month: usize) -> Tu
 
 // The posting whose rows, n of them, were read into the table: its amount is the row directly after its own.
 fn posted_in(t: &[u8], n: usize) -> Row
-    requires { ⌜ 64 ≤ length (now t) ⌝ }
+    requires { ⌜ 2 * width ≤ length (now t) ⌝ }
     ensures { λ r. ⌜ r ≡ postedIn (now (t .entry)) n ⌝ }
 {
     let own = table::row_in(t);
@@ -162,7 +166,7 @@ fn line_turn(s: &[u8], at: usize, from: usize, year: usize, month: usize) -> Tur
     requires { ⌜ (length (now s) ≤ sizeLimit) × Standing (dated year month) (now s) (inner at from) ⌝ }
     ensures { λ r. ⌜ Turned (dated year month) (now (s .entry)) (inner at from) r ⌝ }
 {
-    let mut rows = [0u8; 64];
+    let mut rows = [0u8; TWO_ROWS];
     let out = Out {
         rows: 0,
         bad: 0,

@@ -1,5 +1,5 @@
 -- Rows picked and moved one by one, rows moved where they stand, and the parts of the answer.
-use Prim.Native.Nat.{ℕ, zero, suc, _+_, _-_, _*_, _/_, _≤_}
+use Prim.Native.Nat.{ℕ, zero, suc, _+_, _-_, _*_, _≤_}
 use mathlib.Core.Path.{_≡_}
 use mathlib.Core.Bool.{Bool, true, false, cond, _||_, _&&_}
 use mathlib.Core.List.{List, [], _∷_, _++_}
@@ -7,7 +7,7 @@ use lib.Dec.{eqb, ltb, leb}
 use lib.ListN.{length, take, drop}
 use Rattle.text.specs.Permitted.{sizeLimit}
 use Rattle.row.specs.declared.table.Row.{Row}
-use Rattle.row.specs.Row.{width, rowBytes, rowIn, feeds}
+use Rattle.row.specs.Row.{width, rowBytes, rowIn, feeds, room}
 use Rattle.recovery.specs.Recovering.{recoverFrom}
 use Rattle.edit.specs.Edits.{isBlock, isNew, fieldLimit, distance, shift, grows}
 use Rattle.edit.specs.declared.moves.By.{By}
@@ -119,4 +119,4 @@ pub record Counted (p : Plan) (t y : List ℕ) (c : Counts) : Type 0 where
 
 unfoldable pub refusal : List ℕ → List ℕ → ℕ → ℕ → ℕ → List ℕ → ℕ
 refusal s t k a e y =
-    cond (ltb sizeLimit (length s) || grows s a e y) 1 (cond (isBlock s a e && (leb k (length t / width) && isNew s a e y)) 0 10)
+    cond (ltb sizeLimit (length s) || grows s a e y) 1 (cond (isBlock s a e && (leb k (room t) && isNew s a e y)) 0 10)

@@ -1,11 +1,12 @@
 -- Runs of records with the same key in a sorted buffer.
-use Prim.Native.Nat.{ℕ, suc, _+_, _-_, _/_}
+use Prim.Native.Nat.{ℕ, suc, _+_, _-_}
 use mathlib.Core.Bool.{Bool, cond}
 use mathlib.Core.List.{List, [], _∷_}
 use lib.ListN.{length}
 use Rattle.order.specs.Order.{saidIn, by}
 use Rattle.order.specs.Sorted.{recordAt, recordsFrom}
 use Rattle.order.specs.Groups.{alike}
+use Rattle.order.specs.Records.{recordRoom}
 
 -- how many that are like x stand in front
 unfoldable pub leading : {A : Type 0} → (A → A → Bool) → A → List A → ℕ
@@ -14,4 +15,4 @@ leading le x (y ∷ ys) = cond (alike le x y) (suc (leading le x ys)) 0
 
 -- the number of the first record behind record i that is not like it
 unfoldable pub runEnd : List ℕ → List ℕ → ℕ → ℕ
-runEnd s t i = i + 1 + leading (by (saidIn s)) (recordAt t i) (recordsFrom t (i + 1) (length t / 32 - (i + 1)))
+runEnd s t i = i + 1 + leading (by (saidIn s)) (recordAt t i) (recordsFrom t (i + 1) (recordRoom t - (i + 1)))

@@ -4,7 +4,7 @@ use mathlib.Core.List.{List, map}
 use mathlib.Core.Path.{_≡_}
 use lib.ListN.{length, take}
 use Rattle.row.specs.declared.table.Row.{Row}
-use Rattle.row.specs.Row.{rowsBytes}
+use Rattle.row.specs.Row.{rowsBytes, width}
 use Rattle.ledger.specs.Strict.{partBy}
 use Rattle.ledger.specs.declared.scan.Profile.{Profile}
 use Rattle.ledger.specs.steps.Scan.{withLine}
@@ -20,4 +20,4 @@ unlined K s = map (withLine 0) (recoverBy K (length s) 0 0 s)
 
 -- u is the table t with the rows at its front, if it has room for all of them; what else stands there may be anything
 abbrev pub Front : List Row → List ℕ → List ℕ → Type 0
-Front rs t u = length rs * 32 ≤ length t → take (length rs * 32) u ≡ rowsBytes rs
+Front rs t u = length rs * width ≤ length t → take (length rs * width) u ≡ rowsBytes rs

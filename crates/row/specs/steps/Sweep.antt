@@ -9,7 +9,7 @@ use Rattle.text.specs.Bytes.{inLine}
 use Rattle.text.specs.Run.{runTo}
 use Rattle.row.specs.declared.lines.Line.{Line}
 use Rattle.row.specs.Field.{le, un}
-use Rattle.row.specs.Row.{width, feeds}
+use Rattle.row.specs.Row.{atStart, atLine, atP, width, feeds}
 
 -- a line of s, which the code keeps beside the rows: it ends where the run of a line's bytes does, and has its number
 abbrev pub LineOf : List ℕ → Line → Type 0
@@ -17,7 +17,7 @@ LineOf s l = (l .from ≤ length s) × (l .stop ≡ runTo inLine s (l .from)) ×
 
 -- the bytes of a row with its line: one plus the line feeds of s before the start that stands in the row
 unfoldable pub lineSet : List ℕ → List ℕ → List ℕ
-lineSet s r = take 12 r ++ (le 4 (1 + feeds (take (un (take 4 (drop 4 r))) s)) ++ drop 16 r)
+lineSet s r = take atLine r ++ (le 4 (1 + feeds (take (un (take 4 (drop atStart r))) s)) ++ drop atP r)
 
 -- the same of the first n rows of a table, each where a whole row is there
 unfoldable pub linesSet : List ℕ → ℕ → List ℕ → List ℕ

@@ -4,9 +4,9 @@ use mathlib.Core.Path.{_≡_}
 use mathlib.Core.List.{List, [], _∷_}
 use Rattle.row.specs.declared.table.Row.{Row}
 use lib.ListN.{length}
-use Rattle.row.specs.Row.{width}
 use Rattle.row.specs.steps.Holding.{Held}
 use Rattle.ledger.specs.Plain.{Reading, accepted, denied, plain}
+use Rattle.order.specs.Records.{recordWidth}
 use Rattle.order.specs.Order.{said}
 use Rattle.order.specs.Groups.{items, counted}
 use Rattle.walk.specs.Postings.{dated, postings}
@@ -32,4 +32,4 @@ unfoldable pub listedMonth : List ℕ → ℕ → ℕ → ℕ → Outcome
 listedMonth s y m room =
     let ps = monthPostings s y m in
     let is = items (said s) ps in
-    settled (length ps * width) room is (counted (λ r. r .start) 0 is)
+    settled (length ps * recordWidth) room is (counted (λ r. r .start) 0 is)

@@ -6,20 +6,20 @@ use Rattle.order.proofs.compare.row_at.Tie as tie
 mul-at : tie.Need-mul-at
 mul-at c = search (needs, row-there)
 
-add-row-in : tie.Need-add-row-in
-add-row-in c = search (needs, row-there)
+add-fields-in : tie.Need-add-fields-in
+add-fields-in c = search (needs, row-there)
 
-sub-row-in : tie.Need-sub-row-in
-sub-row-in c = search (needs, row-there)
+sub-fields-in : tie.Need-sub-fields-in
+sub-fields-in c = search (needs, row-there)
 
-part-row-in-start : tie.Need-part-row-in-start
-part-row-in-start c = search (needs, row-there)
+part-fields-in-start : tie.Need-part-fields-in-start
+part-fields-in-start c = search (needs, row-there)
 
-part-row-in-end : tie.Need-part-row-in-end
-part-row-in-end c = search (needs, row-there)
+part-fields-in-end : tie.Need-part-fields-in-end
+part-fields-in-end c = search (needs, row-there)
 
-row-in-requires : tie.Need-row-in-requires
-row-in-requires c κs = search (needs, row-there)
+fields-in-requires : tie.Need-fields-in-requires
+fields-in-requires c κs = search (needs, row-there)
 
 returns : tie.Need-returns
 returns c = search (needs, row-there)
@@ -29,9 +29,9 @@ row-at-spec =
     tie.close
     (tie.spec
     mul-at
-    add-row-in
-    sub-row-in
-    part-row-in-start
-    part-row-in-end
-    row-in-requires
+    add-fields-in
+    sub-fields-in
+    part-fields-in-start
+    part-fields-in-end
+    fields-in-requires
     returns)

@@ -1,5 +1,5 @@
 use Prim.Native.Nat.{_-_}
-use Rattle.row.specs.Row.{rowIn}
+use Rattle.row.specs.Row.{fieldsIn}
 use Rattle.order.specs.Order.{saidIn}
 use Rattle.order.specs.Sorted.{recordsOf}
 use Rattle.order.specs.Groups.{listed, counted}
@@ -10,7 +10,7 @@ use Rattle.order.proofs.runs.count_runs.Statement.{statement}
 use Rattle.order.proofs.runs.count_runs.Tie as tie
 
 abbrev Inv-loop : tie.InvT-loop
-Inv-loop s t n i₀ k₀ i k = Pass s t (counted (λ b. rowIn b .start) 0 (listed (saidIn s) (recordsOf t))) i k
+Inv-loop s t n i₀ k₀ i k = Pass s t (counted (λ b. fieldsIn b .start) 0 (listed (saidIn s) (recordsOf t))) i k
 
 abbrev μ-loop : tie.MeasureT-loop
 μ-loop s t n i₀ k₀ i k = n - i

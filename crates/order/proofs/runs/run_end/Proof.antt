@@ -1,4 +1,4 @@
-use Prim.Native.Nat.{_-_, _+_, _/_, _≤_, _<_}
+use Prim.Native.Nat.{_-_, _+_, _≤_, _<_}
 use mathlib.Core.Path.{_≡_}
 use lib.ListN.{length}
 use Rattle.order.specs.Order.{saidIn, by}
@@ -8,10 +8,11 @@ use Rattle.order.proofs.RunLaws.{run-laws}
 use borrow.Author.Needs.{needs}
 use Rattle.order.proofs.runs.run_end.Statement.{statement}
 use Rattle.order.proofs.runs.run_end.Tie as tie
+use Rattle.order.specs.Records.{recordRoom}
 
 abbrev Inv-loop : tie.InvT-loop
 Inv-loop s t i n j₀ j =
-    (runEnd s t i ≡ j + leading (by (saidIn s)) (recordAt t i) (recordsFrom t j (length t / 32 - j))) × (j ≤ length t / 32) × (i < j)
+    (runEnd s t i ≡ j + leading (by (saidIn s)) (recordAt t i) (recordsFrom t j (recordRoom t - j))) × (j ≤ recordRoom t) × (i < j)
 
 abbrev μ-loop : tie.MeasureT-loop
 μ-loop s t i n j₀ j = n - j

@@ -14,6 +14,7 @@ use Rattle.order.proofs.sort.copy.Reads as copy-reads
 use Rattle.order.proofs.sort.merge.Reads as merge-reads
 use Rattle.order.proofs.sort.+sort_part.{statement}
 use Rattle.order.proofs.sort.+sort_part.Tie.{close}
+use Rattle.order.specs.Records.{recordRoom}
 
 abbrev μ-sort-part : Measures 3 sort-part-kinds.ps ℕ
 μ-sort-part κs a = length (a .1 .0 .now)
@@ -99,7 +100,7 @@ sort-part-returns-2 t c =
     let second = merged .before .before .before .before .before .before .before in
     let first = second .before .before .before .before .before .before .before in
     let t = first .before .before .before .before .before .before .before .args .t .now in
-    halves _ t _ _ _ _ _ _ _ (length t / 32 / 2) (omega arith) (first .sort-part .ensures) refl (second .sort-part2 .ensures) refl (merged .merge .ensures) (copied .copy .ensures)
+    halves _ t _ _ _ _ _ _ _ (recordRoom t / 2) (omega arith) (first .sort-part .ensures) refl (second .sort-part2 .ensures) refl (merged .merge .ensures) (copied .copy .ensures)
 
 pub +sort-part-spec : {M : Type 1} → statement M
 +sort-part-spec = close μ-sort-part λ t. sort-part-lts.spec (sort-part-calls t)

@@ -3,39 +3,11 @@ use borrow.Author.Needs.{needs}
 use Rattle.row.proofs.table.row_in.Statement.{statement}
 use Rattle.row.proofs.table.row_in.Tie as tie
 
-get-four-requires : tie.Need-get-four-requires
-get-four-requires c κs = search (needs, reads)
-
-get-four-requires-2 : tie.Need-get-four-requires-2
-get-four-requires-2 c κs = search (needs, reads)
-
-get-four-requires-3 : tie.Need-get-four-requires-3
-get-four-requires-3 c κs = search (needs, reads)
-
-get-four-requires-4 : tie.Need-get-four-requires-4
-get-four-requires-4 c κs = search (needs, reads)
-
-get-four-requires-5 : tie.Need-get-four-requires-5
-get-four-requires-5 c κs = search (needs, reads)
-
-get-four-requires-6 : tie.Need-get-four-requires-6
-get-four-requires-6 c κs = search (needs, reads)
-
-get-eight-requires : tie.Need-get-eight-requires
-get-eight-requires c κs = search (needs, reads)
+fields-in-requires : tie.Need-fields-in-requires
+fields-in-requires c κs = search (needs, reads)
 
 returns : tie.Need-returns
 returns c = search (needs, reads)
 
 pub row-in-spec : {M : Type 1} → statement M
-row-in-spec =
-    tie.close
-    (tie.spec
-    get-four-requires
-    get-four-requires-2
-    get-four-requires-3
-    get-four-requires-4
-    get-four-requires-5
-    get-four-requires-6
-    get-eight-requires
-    returns)
+row-in-spec = tie.close (tie.spec fields-in-requires returns)

@@ -19,8 +19,8 @@ advance-requires c κs = search (needs, put-laws)
 enum-known-t : tie.Need-enum-known-t Inv-loop μ-loop
 enum-known-t c = search (needs, put-laws)
 
-put-row-requires : tie.Need-put-row-requires Inv-loop μ-loop
-put-row-requires c κs = search (needs, put-laws)
+put-record-requires : tie.Need-put-record-requires Inv-loop μ-loop
+put-record-requires c κs = search (needs, put-laws)
 
 add-n : tie.Need-add-n Inv-loop μ-loop
 add-n c = search (needs, put-laws)
@@ -58,7 +58,7 @@ put-spec =
     loop-holds
     advance-requires
     enum-known-t
-    put-row-requires
+    put-record-requires
     add-n
     loop-less
     loop-again

@@ -1,0 +1,24 @@
+-- Things of w bytes each, f's, poured into a table: rows, and the records and items of M-108.
+use Prim.Native.Nat.{ℕ, _*_, min}
+use mathlib.Core.Bool.{cond}
+use mathlib.Core.List.{List, [], _∷_, _++_}
+use lib.Dec.{leb}
+use lib.ListN.{length, take, drop}
+
+-- their bytes, one after the other
+unfoldable pub bytesOf : {A : Type 0} → (A → List ℕ) → List A → List ℕ
+bytesOf f [] = []
+bytesOf f (x ∷ xs) = f x ++ bytesOf f xs
+
+-- the table t after they were written from its front: each where a whole one fits, what is past them as it was
+unfoldable pub poured : {A : Type 0} → ℕ → (A → List ℕ) → List A → List ℕ → List ℕ
+poured w f [] t = t
+poured w f (x ∷ xs) t = cond (leb w (length t)) (f x ++ poured w f xs (drop w t)) t
+
+-- where number n starts in a table of so many bytes, or the table's end
+abbrev pub placeAt : ℕ → ℕ → ℕ → ℕ
+placeAt w n size = min (n * w) size
+
+-- the same from number n on
+unfoldable pub pouredAt : {A : Type 0} → ℕ → (A → List ℕ) → ℕ → List A → List ℕ → List ℕ
+pouredAt w f n xs t = take (placeAt w n (length t)) t ++ poured w f xs (drop (placeAt w n (length t)) t)
