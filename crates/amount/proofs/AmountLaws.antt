@@ -1,21 +1,18 @@
--- Rule 10: where amounts end and refuse, and that they do not see what follows a text that ends in a line feed.
-use Prim.Native.Nat.{ℕ, suc, _+_, _≤_, _<_}
-use mathlib.Core.Path.{_≡_}
-use mathlib.Core.Bool.{true}
-use mathlib.Core.List.{List, [], _∷_}
+-- Rule 10: where amounts end and refuse, and that two texts which share a line have the same.
+use Prim.Native.Nat.{ℕ, _+_, _≤_}
+use mathlib.Core.List.{List}
 use native.Mathlib.Omega.{arith}
 use lib.ListN.{length}
 use Rattle.text.specs.Answer.{must}
 use Rattle.text.specs.Leaves.{gap, currency}
-use Rattle.text.proofs.Joins.{Reach, to-reach, reach-from, must-reach, then-reach, and-reach, Same, to-same, must-same, then-same, and-same}
-use Rattle.text.proofs.InLine.{starts}
+use Rattle.text.proofs.Joins.{Reach, to-reach, reach-from, must-reach, then-reach, and-reach}
+use Rattle.text.proofs.Alike.{Alike, both-to, then-alike, and-alike, must-alike}
 use Rattle.text.proofs.TokenEnds.{gap-reach, currency-reach}
-use Rattle.text.proofs.TokenSame.{xs, s, gap-same, currency-same}
-use Rattle.amount.specs.Details.{span, valued}
+use Rattle.text.proofs.SharedLines.{Shared, told, gap-alike, currency-alike}
 use Rattle.amount.specs.Expression.{expression}
 use Rattle.amount.specs.Amounts.{amount, hardGap, hardCurrency, hardAmount, priceOf}
 use Rattle.amount.proofs.ExpressionEnds.{expression-reach}
-use Rattle.amount.proofs.ExpressionSame.{expression-same}
+use Rattle.amount.proofs.ExpressionAlike.{expression-alike}
 
 -- ---- they end past their start and within the text, and refuse within it
 
@@ -53,43 +50,29 @@ module _ (s : List ℕ) where
       and-reach N (e + 1) (at + 1) (hardGap s e) _ (hard-gap-reach e q) (λ g p₂ q₂.
       reach-from N (g + 1) (at + 1) (hardAmount 26 s g) (omega arith) (hard-amount-reach 26 g q₂)))
 
--- ---- they are the same on both texts
+-- ---- they are read alike in two texts that share a line
 
-module _ (front t : List ℕ) (b : ℕ) (B : starts b ≡ true) where
-  abbrev X : List ℕ
-  X = xs front t b B
-
-  abbrev S : List ℕ
-  S = s front t b B
-
-  abbrev M : ℕ
-  M = length X
-
-  pub amount-same : (k at : ℕ) → at < M → Same M (amount k S at) (amount k X at)
+module _ {Q : Type 0} {s z : List ℕ} {K P : ℕ → ℕ → Type 0} (L : Shared Q s z K P) where
+  pub amount-alike : (k : ℕ) {i j : ℕ} → K i j → Alike Q K (amount k s i) (amount k z j)
   unfolding amount
-  amount-same k at h =
-      then-same M M (expression S at) (expression X at) _ _ (expression-same front t b B at h) (λ e v h₁.
-      and-same M M (gap S e) (gap X e) _ _ (gap-same front t b B e (omega arith)) (λ c h₂.
-      and-same M M (currency S c) (currency X c) _ _ (currency-same front t b B c h₂) (λ d h₃. to-same M d (valued k at e c d v ∷ []) h₃)))
+  amount-alike k S =
+      then-alike _ _ (expression-alike L S) (λ e f v w T t. and-alike _ _ (gap-alike L T) (λ c d U. and-alike _ _ (currency-alike L U) (λ a b W.
+      both-to a b _ _ W (λ q. rw (told L S q, told L T q, told L U q, told L W q, t q)))))
 
-  pub hard-gap-same : (at : ℕ) → at < suc M → Same M (hardGap S at) (hardGap X at)
+  pub hard-gap-alike : {i j : ℕ} → K i j → Alike Q K (hardGap s i) (hardGap z j)
   unfolding hardGap
-  hard-gap-same at h = must-same M at (gap S at) (gap X at) (gap-same front t b B at h)
+  hard-gap-alike S = must-alike _ _ (told L S) (gap-alike L S)
 
-  pub hard-currency-same : (at : ℕ) → at < M → Same M (hardCurrency S at) (hardCurrency X at)
+  pub hard-currency-alike : {i j : ℕ} → K i j → Alike Q K (hardCurrency s i) (hardCurrency z j)
   unfolding hardCurrency
-  hard-currency-same at h =
-      and-same M M (must at (currency S at)) (must at (currency X at)) _ _ (must-same M at _ _ (currency-same front t b B at h)) (λ e l. to-same M e (span 31 at e ∷ []) l)
+  hard-currency-alike S = and-alike _ _ (must-alike _ _ (told L S) (currency-alike L S)) (λ e f T. both-to e f _ _ T (λ q. rw (told L S q, told L T q)))
 
-  pub hard-amount-same : (k at : ℕ) → at < M → Same M (hardAmount k S at) (hardAmount k X at)
+  hard-amount-alike : (k : ℕ) {i j : ℕ} → K i j → Alike Q K (hardAmount k s i) (hardAmount k z j)
   unfolding hardAmount
-  hard-amount-same k at h =
-      then-same M M (must at (expression S at)) (must at (expression X at)) _ _ (must-same M at _ _ (expression-same front t b B at h)) (λ e v h₁.
-      and-same M M (hardGap S e) (hardGap X e) _ _ (hard-gap-same e (omega arith)) (λ c h₂.
-      and-same M M (must c (currency S c)) (must c (currency X c)) _ _ (must-same M c _ _ (currency-same front t b B c h₂)) (λ d h₃. to-same M d (valued k at e c d v ∷ []) h₃)))
+  hard-amount-alike k S =
+      then-alike _ _ (must-alike _ _ (told L S) (expression-alike L S)) (λ e f v w T t. and-alike _ _ (hard-gap-alike T) (λ c d U.
+      and-alike _ _ (must-alike _ _ (told L U) (currency-alike L U)) (λ a b W. both-to a b _ _ W (λ q. rw (told L S q, told L T q, told L U q, told L W q, t q)))))
 
-  pub price-of-same : (at : ℕ) → at < M → Same M (priceOf S at) (priceOf X at)
+  pub price-of-alike : {i j : ℕ} → K i j → Alike Q K (priceOf s i) (priceOf z j)
   unfolding priceOf
-  price-of-same at h =
-      and-same M M (hardCurrency S at) (hardCurrency X at) _ _ (hard-currency-same at h) (λ e h₁.
-      and-same M M (hardGap S e) (hardGap X e) _ _ (hard-gap-same e (omega arith)) (λ g h₂. hard-amount-same 26 g h₂))
+  price-of-alike S = and-alike _ _ (hard-currency-alike S) (λ e f T. and-alike _ _ (hard-gap-alike T) (λ c d U. hard-amount-alike 26 U))

@@ -6,7 +6,7 @@ pub mod ValueLaws
 pub mod ValueSizes
 pub mod Forms
 pub mod ExpressionEnds
-pub mod ExpressionSame
+pub mod ExpressionAlike
 pub mod Refusals
 pub mod FormsAgree
 pub mod NoExpression

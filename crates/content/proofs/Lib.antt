@@ -1,5 +1,6 @@
 pub mod ContentEnds
 pub mod ContentFew
+pub mod ContentAlike
 pub mod ContentAgree
 pub mod RowLaws
 pub mod ContentLaws

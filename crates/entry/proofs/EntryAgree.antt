@@ -14,13 +14,15 @@ use Rattle.text.specs.Answer.{Ans, To, Miss, Hard, more, _then_, _and_}
 use Rattle.text.specs.Leaves.{gap, lineEnd}
 use Rattle.text.proofs.TestLaws.{absurd-bool}
 use Rattle.text.proofs.InLine.{hasLF, starts}
-use Rattle.text.proofs.Joins.{Reach, reach-from, must-reach, and-reach, Same, to-same, miss-same, cond-same}
+use Rattle.text.proofs.Joins.{Reach, reach-from, must-reach, and-reach}
+use Rattle.text.proofs.Alike.{Same, Upto, upto, both-to, to-same, if-alike}
+use Rattle.text.proofs.SharedLines.{Shared, byte-same, run-alike, gap-alike, line-alike, tag-alike, word-alike, date-alike}
 use Rattle.text.proofs.TokenEnds.{gap-reach, line-reach}
-use Rattle.text.proofs.TokenSame.{xs, s, same-byte, run-same, run-below, gap-same, line-same, tag-same, word-same, date-same}
+use Rattle.text.proofs.TextCut.{xs, s, cut}
 use Rattle.amount.specs.declared.detail.Detail.{Detail}
 use Rattle.amount.specs.Details.{Rows, span}
 use Rattle.amount.specs.Amounts.{hardCurrency, priceOf}
-use Rattle.amount.proofs.AmountLaws.{hard-gap-same, hard-currency-same, price-of-same}
+use Rattle.amount.proofs.AmountLaws.{hard-gap-alike, hard-currency-alike, price-of-alike}
 use Rattle.row.proofs.SureLaws.{Sure, sure-to, sure-hard, sure-must, sure-more}
 use Rattle.posting.specs.Metadata.{quoted, metadata}
 use Rattle.posting.proofs.PostingEnds.{quoted-reach}
@@ -28,7 +30,8 @@ use Rattle.posting.proofs.Agree.{torn, torn-right, torn-more, Agree, Agrees, mi
 use Rattle.posting.proofs.PostingAgree.{longer, line-agree, sure-metadata}
 use Rattle.content.specs.Contents.{hardAccount, balanceOf, openOf, padOf, eventOf}
 use Rattle.content.proofs.ContentEnds.{hard-string-reach, event-of-reach}
-use Rattle.content.proofs.ContentAgree.{ending, ending-reach, ending-agree, hard-account-same, balance-of-same, pad-of-same, hard-string-agree, option-string-agree, event-of-agree, open-ending}
+use Rattle.content.proofs.ContentAlike.{hard-account-alike, balance-of-alike, pad-of-alike}
+use Rattle.content.proofs.ContentAgree.{ending, ending-reach, ending-agree, hard-string-agree, option-string-agree, event-of-agree, open-ending}
 use Rattle.transaction.proofs.TransactionAgree.{transaction-agree}
 use Rattle.entry.specs.Directive.{keyword, option, include, tagged}
 use Rattle.entry.specs.Forms.{Form, asEntry, dateless, directive, blank, formOf}
@@ -100,13 +103,16 @@ module _ (front t : List ℕ) (b : ℕ) (B : starts b ≡ true) where
   abbrev N : ℕ
   N = length S
 
+  abbrev C : Shared (Unit {0}) S X (Upto M) (Upto (suc M))
+  C = cut front t b B
+
   -- ---- rule 4: a keyword, and what follows its gap
 
   keyword-at : (w : String) (content : List ℕ → ℕ → Rows) → hasLF (bytes w) ≡ false → (at : ℕ) → at < M
       → ((g : ℕ) → g < M → Agrees M (suc M) false (content S g and ending S) (content X g and ending X)) → Agrees M (suc M) false (keyword w content S at) (keyword w content X at)
   unfolding keyword
   keyword-at w content f at h c =
-      and-agree (word-same front t b B (bytes w) f at h) (λ e h₁. and-agree (hard-gap-same front t b B e (omega arith)) (λ g h₂. c g h₂))
+      and-agree (word-alike C (bytes w) f (upto at h)) (λ e h₁. and-agree (hard-gap-alike C (upto e h₁)) (λ g h₂. c g h₂))
 
   keyword-agree : (w : String) (content : List ℕ → ℕ → Rows) → hasLF (bytes w) ≡ false → ((g : ℕ) → g < M → Same M (content S g) (content X g)) → (at : ℕ) → at < M
       → Agrees M (suc M) false (keyword w content S at) (keyword w content X at)
@@ -129,20 +135,20 @@ module _ (front t : List ℕ) (b : ℕ) (B : starts b ≡ true) where
   event-agree : (at : ℕ) → at < M → Clear M (lostAt S at) → Agrees M (suc M) false (keyword "event" eventOf S at) (keyword "event" eventOf X at)
   unfolding keyword lostAt
   event-agree at h c =
-      and-at (word-same front t b B (bytes "event") (words-lf .6) at h) (λ e x p h₁.
-      and-at (hard-gap-same front t b B e (omega arith)) (λ g y q h₂.
+      and-at (word-alike C (bytes "event") (words-lf .6) (upto at h)) (λ e x p h₁.
+      and-at (hard-gap-alike C (upto e h₁)) (λ g y q h₂.
       event-ending g h₂ (clear-and M _ _ g y (clear-and M _ _ e x c p) q)))
 
   dateless-agree : (d at : ℕ) → at < M → Clear M (lostAt S at) → Agree inForm M (suc M) false (dateless d S at) (dateless d X at)
   unfolding dateless
   dateless-agree d at h c =
       else-agree (as-entry-agree 6 d (transaction-agree front t b B at h))
-      (else-agree (worded 7 "price" priceOf (words-lf .0) (price-of-same front t b B))
-      (else-agree (worded 8 "balance" balanceOf (words-lf .1) (balance-of-same front t b B))
+      (else-agree (worded 7 "price" priceOf (words-lf .0) (λ g h. price-of-alike C (upto g h)))
+      (else-agree (worded 8 "balance" balanceOf (words-lf .1) (λ g h. balance-of-alike C (upto g h)))
       (else-agree (as-entry-agree 9 d (keyword-at "open" openOf (words-lf .2) at h (open-ending front t b B)))
-      (else-agree (worded 10 "close" hardAccount (words-lf .3) (hard-account-same front t b B))
-      (else-agree (worded 11 "pad" padOf (words-lf .4) (pad-of-same front t b B))
-      (else-agree (worded 12 "commodity" hardCurrency (words-lf .5) (hard-currency-same front t b B))
+      (else-agree (worded 10 "close" hardAccount (words-lf .3) (λ g h. hard-account-alike C (upto g h)))
+      (else-agree (worded 11 "pad" padOf (words-lf .4) (λ g h. pad-of-alike C (upto g h)))
+      (else-agree (worded 12 "commodity" hardCurrency (words-lf .5) (λ g h. hard-currency-alike C (upto g h)))
       (as-entry-agree 13 d (event-agree at h c))))))))
     where
       worded : (k : ℕ) (w : String) (content : List ℕ → ℕ → Rows) → hasLF (bytes w) ≡ false → ((g : ℕ) → g < M → Same M (content S g) (content X g))
@@ -152,8 +158,8 @@ module _ (front t : List ℕ) (b : ℕ) (B : starts b ≡ true) where
   directive-agree : 0 < M → Clear M (lostEvent S) → Agree inForm M (suc M) false (directive S) (directive X)
   unfolding directive lostEvent
   directive-agree h c =
-      then-at (date-same front t b B 0 h) (λ e d p h₁.
-      then-at (hard-gap-same front t b B e (omega arith)) (λ g x q h₂.
+      then-at (date-alike C (upto 0 h)) (λ e d p h₁.
+      then-at (hard-gap-alike C (upto e h₁)) (λ g x q h₂.
       dateless-agree d g h₂ (clear-then M _ _ g x (clear-then M _ _ e d c p) q)))
 
   -- ---- rules 14 and 15
@@ -161,39 +167,36 @@ module _ (front t : List ℕ) (b : ℕ) (B : starts b ≡ true) where
   option-agree : 0 < M → Agrees M (suc M) true (option S 0) (option X 0)
   unfolding option
   option-agree h =
-      and-agree (word-same front t b B (bytes "option") (words-lf .7) 0 h) (λ a h₁.
-      and-agree (gap-same front t b B a (omega arith)) (λ c h₂.
+      and-agree (word-alike C (bytes "option") (words-lf .7) (upto 0 h)) (λ a h₁.
+      and-agree (gap-alike C (upto a h₁)) (λ c h₂.
       and-strict N (option-string-agree front t b B c h₂) (quoted-reach S (span 34) c)
-      (λ d h₃. and-agree (gap-same front t b B d (omega arith)) (λ e h₄.
-      and-strict N (option-string-agree front t b B e h₄) (quoted-reach S (span 34) e) (λ j h₅. same-agree (line-same front t b B j h₅)) (λ j p q. line-reach S j q)))
+      (λ d h₃. and-agree (gap-alike C (upto d h₃)) (λ e h₄.
+      and-strict N (option-string-agree front t b B e h₄) (quoted-reach S (span 34) e) (λ j h₅. same-agree (line-alike C (upto j h₅))) (λ j p q. line-reach S j q)))
       (λ d p q. and-reach N (d + 1) d (gap S d) _ (gap-reach S d q) (λ e u v.
       and-reach N (e + 1) d (quoted (span 34) S e) _ (quoted-reach S (span 34) e) (λ j y z. reach-from N j d (lineEnd S j) (omega arith) (line-reach S j z))))))
 
   include-agree : 0 < M → Agrees M (suc M) false (include S 0) (include X 0)
   unfolding include
   include-agree h =
-      and-agree (word-same front t b B (bytes "include") (words-lf .8) 0 h) (λ a h₁.
-      and-agree (hard-gap-same front t b B a (omega arith)) (λ c h₂.
+      and-agree (word-alike C (bytes "include") (words-lf .8) (upto 0 h)) (λ a h₁.
+      and-agree (hard-gap-alike C (upto a h₁)) (λ c h₂.
       and-loose N (hard-string-agree front t b B c h₂) (hard-string-reach S c (omega (arith, longer front t b B))) (λ j _ h₃. line-agree front t b B j (omega arith))
       (λ j p q. must-reach N j j _ q (line-reach S j q)) (λ j. sure-must j _)))
 
   tagged-agree : (w : String) → hasLF (bytes w) ≡ false → 0 < M → Agrees M (suc M) false (tagged w S 0) (tagged w X 0)
   unfolding tagged
   tagged-agree w f h =
-      and-agree (word-same front t b B (bytes w) f 0 h) (λ a h₁.
-      and-agree (gap-same front t b B a (omega arith)) (λ c h₂.
-      and-agree (tag-same front t b B c h₂) (λ e h₃. same-agree (to-same (suc M) e (span 23 (c + 1) e ∷ []) (omega arith)))))
+      and-agree (word-alike C (bytes w) f (upto 0 h)) (λ a h₁.
+      and-agree (gap-alike C (upto a h₁)) (λ c h₂.
+      and-agree (tag-alike C (upto c h₂)) (λ e h₃. same-agree (to-same (suc M) e (span 23 (c + 1) e ∷ []) (omega arith)))))
 
   -- ---- rule 1
 
   blank-same : 0 < M → Same (suc M) (blank S) (blank X)
   unfolding blank asEntry
   blank-same h =
-      let e = runTo inLine X 0 in
-      let l = run-below front t b B inLine lf-ends 0 h in
-      rw (run-same front t b B inLine lf-ends 0 h, same-byte front t b B e l)
-      (cond-same (λ a. a) (suc M) (eqb (getD X e 0) 10) (asEntry 1 0 (To (e + 1) [])) (asEntry 1 0 (To (e + 1) [])) Miss Miss
-      (λ _. to-same (suc M) (e + 1) _ (omega arith)) (λ _. miss-same (suc M) _ _ refl refl))
+      let T = run-alike C inLine lf-ends (upto 0 h) in
+      rw (byte-same C T) (if-alike (eqb (getD S (runTo inLine S 0) 0) 10) _ _ (λ e. both-to _ _ _ _ (C .past _ _ T e) (λ _. refl)))
 
   form-agree : 0 < M → Clear M (lostEvent S) → Agree inForm M (suc M) false (formOf S) (formOf X)
   unfolding formOf

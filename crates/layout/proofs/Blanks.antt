@@ -29,8 +29,7 @@ use Rattle.layout.proofs.Bodies.{print-end, print-entry}
 use Rattle.layout.proofs.Choices.{Made, as-inv, made-second, tried-last}
 use Rattle.layout.proofs.Compose.{Boundary, Renewed}
 use Rattle.layout.proofs.Wordings.{form-tried, wordings}
-use Rattle.layout.proofs.QuietLines.{Line, last, on, line-some}
-use Rattle.layout.proofs.Spots.{Spot}
+use Rattle.layout.proofs.QuietLines.{Line, Spot, last, line-head, line-some, on}
 use Rattle.layout.proofs.EntryTwins.{directive-follow, meta-follow, body-follow, wordings-follow}
 
 -- ---- its line
@@ -97,10 +96,6 @@ blank-again xs v h =
     rw (run-at t inLine xs (10 ∷ v) 0 A h in-line-feed, at-byte (at-next xs (10 ∷ v) A))
     (ap (λ z. To z (record { kind = 1; date = 0; details = [] })) {x = 0 + length xs + 1} {y = length (xs ++ (10 ∷ []))} (omega (arith, length-append xs (10 ∷ []))))
 
-same-head : {u : List ℕ} → Line u → (r v : List ℕ) → getD (u ++ r) 0 0 ≡ getD (u ++ v) 0 0
-same-head last r v = refl
-same-head (on x e f L) r v = refl
-
 after : (x v : List ℕ) → At (x ++ v) (length x) v
 after x v = let e : 0 + length x ≡ length x = omega arith in subst (λ z. At (x ++ v) z v) e (at-next x v (at-start (x ++ v)))
 
@@ -120,9 +115,9 @@ module _ (s : List ℕ) (n : ℕ) (f : Form) (K : Kept s n f) (quiet : holdsQuot
   unfolding line
   is-line = line-of (K .xs) (K .all) (subst (λ z. holdsQuote z ≡ false) (whole .0) quiet)
 
-  spot : (S u : List ℕ) (a b : ℕ) (v : List ℕ) → At S a s → At u b (line ++ v) → Spot S (K .rest) u v (length line) a b
+  spot : (S u : List ℕ) (a b : ℕ) (v : List ℕ) → At S a s → At u b (line ++ v) → Spot S u a b
   unfolding line
-  spot S u a b v A B = record { u = line; line = is-line; size = omega arith; here = subst (At S a) (K .is) A; there = B }
+  spot S u a b v A B = record { u = line; r = K .rest; v = v; line = is-line; here = subst (At S a) (K .is) A; there = B }
 
   front : (v : List ℕ) → Boundary s (line ++ v)
   front v = record {
@@ -132,7 +127,7 @@ module _ (s : List ℕ) (n : ℕ) (f : Form) (K : Kept s n f) (quiet : holdsQuot
   }
     where
       first-same : (v : List ℕ) → inTag (getD s 0 0) ≡ false → inTag (getD (line ++ v) 0 0) ≡ false
-      first-same v h = subst (λ z. inTag z ≡ false) (at-byte start ∙ same-head is-line (K .rest) v) h
+      first-same v h = subst (λ z. inTag z ≡ false) (at-byte start ∙ line-head is-line (K .rest) v) h
 
   neat-of : Neat line
   unfolding line

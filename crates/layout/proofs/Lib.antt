@@ -28,11 +28,8 @@ pub mod Heads
 pub mod Trades
 pub mod Renews
 pub mod QuietLines
-pub mod Twins
-pub mod Spots
-pub mod TokenTwins
-pub mod ValueTwins
-pub mod RowTwins
+pub mod Follows
+pub mod StringTwins
 pub mod EntryTwins
 pub mod Blanks
 pub mod Rewrites

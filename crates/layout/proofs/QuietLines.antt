@@ -1,16 +1,16 @@
--- A line that holds no quote: what is left of it further on, and how far a run and the parts of an account go in it.
-use Prim.Native.Nat.{ℕ, zero, suc, _+_, _<_}
+-- Two texts that hold the same line, without a quote, and go on otherwise: they share the line, and no string starts in it.
+use Prim.Native.Nat.{ℕ, _+_, _<_}
 use native.Mathlib.Omega.{arith}
-use mathlib.Core.Path.{_≡_, refl, sym, _∙_, ap, subst}
-use mathlib.Core.Bool.{Bool, true, false, cond, _||_, _&&_}
-use mathlib.Core.List.{List, [], _∷_, _++_, append-assoc}
+use mathlib.Core.Path.{_≡_, refl, sym, _∙_}
+use mathlib.Core.Bool.{false}
+use mathlib.Core.List.{List, [], _∷_, _++_}
 use lib.Dec.{eqb}
-use lib.ListN.{length, getD, drop, take, length-take, take-append-drop}
-use Rattle.text.specs.Bytes.{isDigit, isCapital, isSmall, startsPart, inAccount}
-use Rattle.text.specs.Run.{runFrom}
-use Rattle.text.specs.Accounts.{partsFrom}
-use Rattle.text.proofs.InLine.{hasLF}
-use Rattle.text.proofs.Ats.{At, at-next}
+use lib.ListN.{length, getD, length-append}
+use Rattle.text.specs.Answer.{Ans}
+use Rattle.text.proofs.TestLaws.{absurd-bool}
+use Rattle.text.proofs.Ats.{At, at-one, at-byte}
+use Rattle.text.proofs.Alike.{Alike}
+use Rattle.text.proofs.SharedLines.{Shared}
 
 -- the rest of a line that holds no quote
 pub data Line : List ℕ → Type 0 where
@@ -21,76 +21,48 @@ pub line-some : {u : List ℕ} → Line u → 0 < length u
 line-some last = omega arith
 line-some (on x e f L) = omega arith
 
-pub line-feed : {u : List ℕ} → Line u → hasLF u ≡ true
-unfolding hasLF
-line-feed last = refl
-line-feed (on x e f L) = rw e (line-feed L)
+pub line-head : {u : List ℕ} → Line u → (r v : List ℕ) → getD (u ++ r) 0 0 ≡ getD (u ++ v) 0 0
+line-head last r v = refl
+line-head (on x e f L) r v = refl
 
-pub line-drop : {u : List ℕ} → Line u → (k : ℕ) → k < length u → Line (drop k u)
-line-drop L zero h = L
-line-drop last (suc k) h = absurd (omega arith)
-line-drop (on x e f L) (suc k) h = line-drop L k (omega arith)
+-- places where the same of the line is left
+pub record Spot (s z : List ℕ) (i j : ℕ) : Type 0 where
+  pub u : List ℕ
+  pub r : List ℕ
+  pub v : List ℕ
+  pub line : Line u
+  pub here : At s i (u ++ r)
+  pub there : At z j (u ++ v)
 
-pub line-quote : {u : List ℕ} → Line u → eqb (getD u 0 0) 34 ≡ false
-line-quote last = refl
-line-quote (on x e f L) = f
+-- of places behind it nothing is said
+abbrev pub Behind : ℕ → ℕ → Type 0
+Behind i j = Unit {0}
 
-pub line-head : {u : List ℕ} (r : List ℕ) → Line u → getD (u ++ r) 0 0 ≡ getD u 0 0
-line-head r last = refl
-line-head r (on x e f L) = refl
+-- two readings that leave such places; nothing is said of what they read
+abbrev pub Twin : {A : Type 0} → (s z : List ℕ) → Ans A → Ans A → Type 0
+Twin s z a b = Alike ⊥ (Spot s z) a b
 
-pub far : (t : List ℕ) (i : ℕ) (r u : List ℕ) (k : ℕ) → At t i (u ++ r) → k < length u → At t (i + k) (drop k u ++ r)
-far t i r u k A h =
-    let e : u ++ r ≡ take k u ++ (drop k u ++ r) = ap (λ z. z ++ r) (sym (take-append-drop k u)) ∙ append-assoc (take k u) (drop k u) r in
-    let l : length (take k u) ≡ k = rw length-take (omega arith) in
-    subst (λ z. At t (i + z) (drop k u ++ r)) l (at-next (take k u) (drop k u ++ r) (subst (At t i) e A))
+abbrev pub LineTwin : {A : Type 0} → Ans A → Ans A → Type 0
+LineTwin a b = Alike ⊥ Behind a b
 
--- how far a run goes in a line
-unfoldable pub steps : (ℕ → Bool) → List ℕ → ℕ
-steps p [] = 0
-steps p (x ∷ u) = cond (p x) (suc (steps p u)) 0
+module _ {s z : List ℕ} where
+  pub spot-quote : {i j : ℕ} → Spot s z i j → eqb (getD s i 0) 34 ≡ false
+  spot-quote S = rw (at-byte (S .here)) (go (S .line))
+    where
+      go : {u : List ℕ} → Line u → eqb (getD (u ++ S .r) 0 0) 34 ≡ false
+      go last = refl
+      go (on x e f L) = f
 
-pub steps-in : (p : ℕ → Bool) → p 10 ≡ false → {u : List ℕ} → Line u → steps p u < length u
-unfolding steps
-steps-in p n last = rw n (omega arith)
-steps-in p n (on x {u} e f L) = go (p x) (steps-in p n L)
-  where
-    go : (b : Bool) → steps p u < length u → cond b (suc (steps p u)) 0 < suc (length u)
-    go true h = omega arith
-    go false h = omega arith
+  next : (i j : ℕ) (u r v : List ℕ) → Line u → At s i (u ++ r) → At z j (u ++ v) → eqb (getD (u ++ r) 0 0) 10 ≡ false → Spot s z (i + 1) (j + 1)
+  next i j u r v last A B e = absurd-bool (sym e)
+  next i j u r v (on x {u = w} p q L) A B e = record { u = w; r = r; v = v; line = L; here = at-one A; there = at-one B }
 
-pub run-steps : (p : ℕ → Bool) → p 10 ≡ false → {u : List ℕ} → Line u → (r : List ℕ) (i : ℕ) → runFrom p (u ++ r) i ≡ i + steps p u
-unfolding runFrom steps
-run-steps p n last r i = rw n (omega arith)
-run-steps p n (on x {u} e f L) r i = go (p x) (run-steps p n L r (i + 1))
-  where
-    go : (b : Bool) → runFrom p (u ++ r) (i + 1) ≡ i + 1 + steps p u → cond b (runFrom p (u ++ r) (i + 1)) i ≡ i + cond b (suc (steps p u)) 0
-    go true h = h ∙ omega arith
-    go false h = omega arith
-
--- and the parts of an account
-unfoldable pub parts : List ℕ → ℕ
-parts [] = 0
-parts (x ∷ u) = cond (inAccount x || (eqb x 58 && startsPart (getD u 0 0))) (suc (parts u)) 0
-
-line-out : inAccount 10 ≡ false
-unfolding inAccount isCapital isSmall isDigit
-line-out = refl
-
-pub parts-in : {u : List ℕ} → Line u → parts u < length u
-unfolding parts
-parts-in last = rw line-out (omega arith)
-parts-in (on x {u} e f L) = go (inAccount x || (eqb x 58 && startsPart (getD u 0 0))) (parts-in L)
-  where
-    go : (b : Bool) → parts u < length u → cond b (suc (parts u)) 0 < suc (length u)
-    go true h = omega arith
-    go false h = omega arith
-
-pub parts-steps : {u : List ℕ} → Line u → (r : List ℕ) (i : ℕ) → partsFrom (u ++ r) i ≡ i + parts u
-unfolding partsFrom parts
-parts-steps last r i = rw line-out (omega arith)
-parts-steps (on x {u} e f L) r i = rw (line-head r L) (go (inAccount x || (eqb x 58 && startsPart (getD u 0 0))) (parts-steps L r (i + 1)))
-  where
-    go : (b : Bool) → partsFrom (u ++ r) (i + 1) ≡ i + 1 + parts u → cond b (partsFrom (u ++ r) (i + 1)) i ≡ i + cond b (suc (parts u)) 0
-    go true h = h ∙ omega arith
-    go false h = omega arith
+  pub quiet : Shared ⊥ s z (Spot s z) Behind
+  quiet = record {
+    byte = λ i j S. at-byte (S .there) ∙ line-head (S .line) (S .v) (S .r) ∙ sym (at-byte (S .here));
+    next = λ i j S e. next i j (S .u) (S .r) (S .v) (S .line) (S .here) (S .there) (rw (at-byte (S .here)) at e);
+    past = λ i j S e. tt;
+    inside = λ i j S.
+        (omega (arith, S .here .fits, length-append (S .u) (S .r), line-some (S .line)), omega (arith, S .there .fits, length-append (S .u) (S .v), line-some (S .line)));
+    equal = λ i j S q. absurd q;
+  }

@@ -11,7 +11,8 @@ use mathlib.Core.List.{List, [], _∷_, _++_}
 use lib.Dec.{eqb, ltb}
 use Rattle.text.specs.Answer.{Ans, To, Miss, Hard, _then_, must, _else_, more, _and_, maybe, many}
 use Rattle.text.proofs.TestLaws.{absurd-bool}
-use Rattle.text.proofs.Joins.{Reach, reach-from, many-reach, Same, Stop, and-assoc}
+use Rattle.text.proofs.Joins.{Reach, reach-from, many-reach, and-assoc}
+use Rattle.text.proofs.Alike.{Same, both-to, both-miss, both-hard}
 use Rattle.amount.specs.declared.detail.Detail.{Detail}
 use Rattle.amount.specs.Details.{Rows}
 use Rattle.row.specs.Strings.{counted}
@@ -70,13 +71,10 @@ lost-map true f b e l = ap f l ∙ e
 lost-map false f b e l = tt
 
 module _ {A : Type 0} {w : A → List Detail} {n m : ℕ} {t : Bool} where
-  same-as : (b : Ans A) → Stop m b → Agree w n m t b b
-  same-as (To j x) l = reads j x l
-  same-as Miss l = misses
-  same-as (Hard k p) l = refuses k p
-
   pub same-agree : {a b : Ans A} → Same m a b → Agree w n m t a b
-  same-agree {a} {b} S = rw (S .eq) (same-as b (S .stop))
+  same-agree (both-to i j x y k e) = rw (k .same, e tt) (reads j y (k .below))
+  same-agree both-miss = misses
+  same-agree (both-hard k p q e) = refuses k p
 
   pub agree-below : (k : ℕ) {a b : Ans A} → m ≤ k → Agree w n m t a b → Agree w n k t a b
   agree-below k h misses = misses
@@ -102,12 +100,9 @@ module _ {A : Type 0} {w : A → List Detail} {n m : ℕ} {t : Bool} where
   pub then-at : {B : Type 0} {k : ℕ} {a b : Ans B} {g h : ℕ → B → Ans A} → Same k a b → ((j : ℕ) (x : B) → a ≡ To j x → j < k → Agree w n m t (g j x) (h j x))
       → Agree w n m t (a then g) (b then h)
   unfolding _then_
-  then-at {B} {k} {a} {b} {g} {h} S f = rw (S .eq) (on b (S .eq) (S .stop))
-    where
-      on : (c : Ans B) → a ≡ c → Stop k c → Agree w n m t (c then g) (c then h)
-      on (To j x) e l = f j x e l
-      on Miss e l = misses
-      on (Hard i p) e l = refuses i p
+  then-at (both-to i j x y k e) f = rw (k .same, e tt) (f j y (rw (k .same, e tt)) (k .below))
+  then-at both-miss f = misses
+  then-at (both-hard k p q e) f = refuses k p
 
   pub then-agree : {B : Type 0} {k : ℕ} {a b : Ans B} {g h : ℕ → B → Ans A} → Same k a b → ((j : ℕ) (x : B) → j < k → Agree w n m t (g j x) (h j x))
       → Agree w n m t (a then g) (b then h)
@@ -133,12 +128,9 @@ module _ {n m : ℕ} {t : Bool} where
   pub and-at : {k : ℕ} {a b : Rows} {g h : ℕ → Rows} → Same k a b → ((j : ℕ) (x : List Detail) → a ≡ To j x → j < k → Agrees n m t (g j) (h j))
       → Agrees n m t (a and g) (b and h)
   unfolding _and_
-  and-at {k} {a} {b} {g} {h} S f = rw (S .eq) (on b (S .eq) (S .stop))
-    where
-      on : (c : Rows) → a ≡ c → Stop k c → Agrees n m t (c and g) (c and h)
-      on (To j x) e l = more-agree x (f j x e l)
-      on Miss e l = misses
-      on (Hard i p) e l = refuses i p
+  and-at (both-to i j x y k e) f = rw (k .same, e tt) (more-agree y (f j y (rw (k .same, e tt)) (k .below)))
+  and-at both-miss f = misses
+  and-at (both-hard k p q e) f = refuses k p
 
   pub and-agree : {k : ℕ} {a b : Rows} {g h : ℕ → Rows} → Same k a b → ((j : ℕ) → j < k → Agrees n m t (g j) (h j)) → Agrees n m t (a and g) (b and h)
   and-agree S f = and-at S (λ j x e l. f j l)

@@ -2,7 +2,7 @@ pub mod PostingEnds
 pub mod PostingFew
 pub mod Agree
 pub mod StringAgree
-pub mod PostingSame
+pub mod PostingAlike
 pub mod PostingAgree
 pub mod OneRows
 pub mod ManyLaws

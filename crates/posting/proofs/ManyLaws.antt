@@ -6,7 +6,8 @@ use mathlib.Core.Path.{_≡_, refl, sym, _∙_, ap, subst}
 use mathlib.Core.List.{List, []}
 use lib.ListN.{length}
 use Rattle.text.specs.Answer.{To, Miss, Hard, _and_, more, maybe, many}
-use Rattle.text.proofs.Joins.{Reach, many-turns}
+use Rattle.text.proofs.Joins.{Reach}
+use Rattle.text.proofs.Alike.{many-turns}
 use Rattle.text.specs.Permitted.{sizeLimit}
 use Rattle.amount.specs.declared.detail.Detail.{Detail}
 use Rattle.amount.specs.Details.{Rows}

@@ -12,21 +12,20 @@ use Rattle.text.specs.Answer.{To, Miss, must, _then_, _and_, _else_}
 use Rattle.text.specs.Leaves.{token, string, currency, lineEnd}
 use Rattle.text.specs.declared.Read.{Read}
 use Rattle.text.proofs.InLine.{starts, start-bounds, line-end-misses}
-use Rattle.text.proofs.Joins.{to-same, else-same, then-same, and-same}
+use Rattle.text.proofs.Alike.{Upto, upto}
+use Rattle.text.proofs.SharedLines.{Shared, gap-alike, line-alike, byte-alike}
 use Rattle.text.proofs.TokenEnds.{line-reach}
-use Rattle.text.proofs.TokenSame.{xs, ys, s, at-seam, same-byte, gap-same, line-same, empty-same, currency-same, byte-same}
+use Rattle.text.proofs.TextCut.{xs, ys, s, cut, at-seam, same-byte, gap-same, empty-same}
 use Rattle.amount.specs.declared.detail.Detail.{Detail}
-use Rattle.amount.specs.Details.{named, valued}
-use Rattle.amount.specs.Expression.{expression}
+use Rattle.amount.specs.Details.{named}
 use Rattle.amount.proofs.NoExpression.{no-expression}
-use Rattle.amount.proofs.ExpressionSame.{expression-same}
 use Rattle.row.proofs.SureLaws.{Sure, sure-many}
 use Rattle.posting.specs.Metadata.{quoted, value, metaLine, metaStep, metadata}
 use Rattle.posting.specs.Postings.{posting, bodyStep, body}
 use Rattle.posting.proofs.PostingEnds.{value-reach, meta-step-reach, body-step-reach}
 use Rattle.posting.proofs.Agree.{Agrees, refuses, same-agree, must-agree, and-agree, and-strict, else-agree, else-strict, many-agree}
 use Rattle.posting.proofs.StringAgree.{string-quotes, quoted-value}
-use Rattle.posting.proofs.PostingSame.{key-same, posting-line-same}
+use Rattle.posting.proofs.PostingAlike.{unquoted, key-alike, unquoted-alike, posting-line-alike}
 
 -- ---- where a string stands, nothing else does that rule 16 takes for a value
 
@@ -43,7 +42,7 @@ module _ (s : List ℕ) (at : ℕ) (e : getD s at 0 ≡ 34) where
   unfolding currency token currencyAt isCapital
   no-currency = rw e
 
-  no-value : (k c : ℕ) → ((expression s at then λ e v. To e (valued 36 k c at e v ∷ [])) else (currency s at and λ e. To e (named 37 k c at e ∷ []))) ≡ Miss
+  no-value : (k c : ℕ) → unquoted k c s at ≡ Miss
   unfolding _then_ _and_ _else_
   no-value k c = rw (no-expression s at e, no-currency)
 
@@ -60,6 +59,9 @@ module _ (front t : List ℕ) (b : ℕ) (B : starts b ≡ true) where
   abbrev N : ℕ
   N = length S
 
+  abbrev C : Shared (Unit {0}) S X (Upto M) (Upto (suc M))
+  C = cut front t b B
+
   pub longer : M ≤ N
   longer = omega (arith, length-append X (ys front t b B))
 
@@ -67,27 +69,24 @@ module _ (front t : List ℕ) (b : ℕ) (B : starts b ≡ true) where
   pub line-agree : (at : ℕ) → at < suc M → Agrees M (suc M) false (must at (lineEnd S at)) (must at (lineEnd X at))
   unfolding must lineEnd token
   line-agree = at-seam front t b B (λ at. Agrees M (suc M) false (must at (lineEnd S at)) (must at (lineEnd X at)))
-      (λ at h. must-agree at (same-agree {t = false} (line-same front t b B at h))) (rw (line-end-misses X t b (start-bounds b B)) (refuses 4 M))
+      (λ at h. must-agree at (same-agree {t = false} (line-alike C (upto at h)))) (rw (line-end-misses X t b (start-bounds b B)) (refuses 4 M))
 
   -- ---- rule 16
 
-  value-agree : (k c at : ℕ) → at < M → Agrees M M true (value k c S at) (value k c X at)
+  value-agree : (k c at : ℕ) → k < M → c < M → at < M → Agrees M M true (value k c S at) (value k c X at)
   unfolding value
-  value-agree k c at h =
-      else-strict (quoted-value front t b B k c at (omega arith))
-      (same-agree (else-same M _ _ _ _
-      (then-same M M (expression S at) (expression X at) _ _ (expression-same front t b B at h) (λ e v l. to-same M e (valued 36 k c at e v ∷ []) l))
-      (and-same M M (currency S at) (currency X at) _ _ (currency-same front t b B at h) (λ e l. to-same M e (named 37 k c at e ∷ []) l))))
+  value-agree k c at p q h =
+      else-strict (quoted-value front t b B k c at (omega arith)) (same-agree (unquoted-alike C (upto k p) (upto c q) (upto at h)))
       (λ j x e. no-value X at (sym (same-byte front t b B at h) ∙ quote-at (named 35 k c) S at j x e) k c)
 
   meta-line-agree : (at : ℕ) → at < suc M → Agrees M (suc M) true (metaLine S at) (metaLine X at)
   unfolding metaLine
   meta-line-agree at h =
       and-agree (gap-same front t b B at h) (λ k h₁.
-      and-agree (key-same front t b B k h₁) (λ c h₂.
-      and-agree (byte-same front t b B 58 refl c h₂) (λ d h₃.
-      and-agree (gap-same front t b B d (omega arith)) (λ v h₄.
-      and-strict N (value-agree k c v h₄) (value-reach S k c v) (λ j h₅. same-agree (line-same front t b B j h₅)) (λ j p q. line-reach S j q)))))
+      and-agree (key-alike C (upto k h₁)) (λ c h₂.
+      and-agree (byte-alike C 58 refl (upto c h₂)) (λ d h₃.
+      and-agree (gap-alike C (upto d h₃)) (λ v h₄.
+      and-strict N (value-agree k c v h₁ h₂ h₄) (value-reach S k c v) (λ j h₅. same-agree (line-alike C (upto j h₅))) (λ j p q. line-reach S j q)))))
 
   meta-step-agree : (at : ℕ) → at < suc M → Agrees M (suc M) false (metaStep S at) (metaStep X at)
   unfolding metaStep
@@ -101,7 +100,8 @@ module _ (front t : List ℕ) (b : ℕ) (B : starts b ≡ true) where
 
   posting-agree : (at : ℕ) → at < suc M → Agrees M (suc M) false (posting S at) (posting X at)
   unfolding posting
-  posting-agree at h = and-agree (posting-line-same front t b B at h) (λ l h₁. metadata-agree l h₁)
+  posting-agree at h =
+      and-agree (posting-line-alike C at at (gap-same front t b B at h) (λ i j m. (m, rw (m .same) (gap-same front t b B (j + 1) (omega (arith, m .below)))))) (λ l h₁. metadata-agree l h₁)
 
   body-step-agree : (at : ℕ) → at < suc M → Agrees M (suc M) false (bodyStep S at) (bodyStep X at)
   unfolding bodyStep

@@ -17,7 +17,9 @@ use Rattle.text.specs.declared.Read.{Read}
 use Rattle.text.proofs.TestLaws.{absurd-bool}
 use Rattle.text.proofs.StringSame.{within, string-cut, string-stays}
 use Rattle.text.proofs.InLine.{starts, start-not}
-use Rattle.text.proofs.TokenSame.{xs, ys, s, same-byte, seam, in-step}
+use Rattle.text.proofs.Alike.{upto}
+use Rattle.text.proofs.SharedLines.{step}
+use Rattle.text.proofs.TextCut.{xs, ys, s, cut, seam}
 use Rattle.amount.specs.declared.detail.Detail.{Detail}
 use Rattle.amount.specs.Details.{span, named}
 use Rattle.row.specs.Strings.{counted}
@@ -101,7 +103,7 @@ module _ (front t : List ℕ) (b : ℕ) (B : starts b ≡ true) where
   over at j h e l =
       let q = string-quotes S at j e in (
         elim (decLt at M) [
-          | yes k ↦ in-step front t b B (λ z. eqb z 34) refl at k (ap (λ z. eqb z 34) (sym (same-byte front t b B at k) ∙ q .1))
+          | yes k ↦ step (cut front t b B) (λ z. eqb z 34) refl (upto at k) (ap (λ z. eqb z 34) (q .1)) .below
           | no k ↦ let z : M ≡ at = omega arith in absurd (no-quote B (rw z (q .1)))
         ],
         elim (decLt M (j - 1)) [ yes k ↦ k | no k ↦ let z : M ≡ j - 1 = omega arith in absurd (no-quote B (rw z (q .2))) ],

@@ -1,68 +1,26 @@
--- Places inside a line: a line feed stands at the place or after it. And the boundary: the first byte after a text that ends in a
--- line feed.
-use Prim.Native.Nat.{ℕ, _+_, _<_}
+-- Words and classes of bytes without a line feed, which stay inside a line. And the boundary: the first byte after a text that ends in one.
+use Prim.Native.Nat.{ℕ, _<_}
 use native.Mathlib.Omega.{arith}
-use native.Mathlib.Decide.{decLt}
 use mathlib.Core.Path.{_≡_, refl}
-use mathlib.Core.Bool.{Bool, true, false, _||_, or-true}
+use mathlib.Core.Bool.{Bool, true, false, _||_}
 use mathlib.Core.List.{List, [], _∷_, _++_}
 use borrow.Author.Tests.{ne-eqb, lt-leb, le-ltb}
 use lib.Dec.{eqb}
-use lib.ListN.{length, drop, getD, List·getD-append, drop-of-length-le, length-append}
-use lib.Seq.{drop-append-le, getD-append-seam}
+use lib.ListN.{length, length-append}
+use lib.Seq.{getD-append-seam}
 use Rattle.text.specs.Bytes.{isBlank, isDigit, isSmall, isCapital, inComment, startsPart, inAccount, inCurrency, inTag, inLink}
-use Rattle.text.specs.Run.{runFrom, runTo, blanks}
+use Rattle.text.specs.Run.{blanks}
 use Rattle.text.specs.Lines.{gapAt, commentEnd, eolAt, lineEndAt}
 use Rattle.text.specs.declared.Read.the-variants.{Miss}
-use Rattle.text.proofs.TestLaws.{absurd-bool, differ, apart}
-use Rattle.text.proofs.Steps.{drop-step, run-stops, run-ends, run-ind}
+use Rattle.text.proofs.TestLaws.{differ}
+use Rattle.text.proofs.Steps.{run-stops, run-ends}
 
 -- a line feed stands in a text
 unfoldable pub hasLF : List ℕ → Bool
 hasLF [] = false
 hasLF (x ∷ r) = eqb x 10 || hasLF r
 
--- the place at stands inside a line of xs
-abbrev pub In : List ℕ → ℕ → Type 0
-In xs at = hasLF (drop at xs) ≡ true
-
--- each byte but a line feed leaves the line feed ahead
-pub lf-tail : (x : ℕ) (r : List ℕ) → (x ≡ 10 → ⊥) → hasLF (x ∷ r) ≡ true → hasLF r ≡ true
-unfolding hasLF
-lf-tail x r n h = rw (ne-eqb x 10 n) at h
-
-module _ (xs : List ℕ) (at : ℕ) where
-  pub in-lt : In xs at → at < length xs
-  unfolding hasLF
-  in-lt h = elim (decLt at (length xs)) [ yes l ↦ l | no n ↦ absurd-bool (rw (drop-of-length-le xs {i = at} (omega arith)) at h) ]
-
-  pub in-next : In xs at → (getD xs at 0 ≡ 10 → ⊥) → In xs (at + 1)
-  in-next h n = lf-tail (getD xs at 0) (drop (at + 1) xs) n (rw (drop-step xs at (in-lt h)) at h)
-
-  -- what follows the text does not count there
-  pub in-byte : (t : List ℕ) → In xs at → getD (xs ++ t) at 0 ≡ getD xs at 0
-  in-byte t h = List·getD-append xs t 0 at (in-lt h)
-
-  pub in-drop : (t : List ℕ) → In xs at → drop at (xs ++ t) ≡ drop at xs ++ t
-  in-drop t h = drop-append-le at xs t (omega (arith, in-lt h))
-
--- a run of bytes that are no line feed ends inside its line, whatever follows
-module _ (p : ℕ → Bool) (n : p 10 ≡ false) where
-  pub run-local : (r t : List ℕ) (i : ℕ) → hasLF r ≡ true → runFrom p (r ++ t) i ≡ runFrom p r i
-  unfolding runFrom hasLF
-  run-local [] t i h = absurd-bool h
-  run-local (x ∷ r) t i h = go (p x) refl (run-local r t (i + 1))
-    where
-      go : (b : Bool) → p x ≡ b → (hasLF r ≡ true → runFrom p (r ++ t) (i + 1) ≡ runFrom p r (i + 1))
-          → runFrom p ((x ∷ r) ++ t) i ≡ runFrom p (x ∷ r) i
-      go true e ih = rw e (ih (lf-tail x r (apart p n x e) h))
-      go false e ih = rw e
-
-  pub run-stays : (s : List ℕ) (i : ℕ) → In s i → In s (runTo p s i)
-  run-stays s i =
-      run-ind p s (λ (j e : ℕ). In s j → In s e) (λ j l h. h) (λ j l o h. h) (λ j e l o u h. u (in-next s j h (apart p n (getD s j 0) o))) i (runTo p s i) refl
-
--- such are the classes of the tokens' bytes
+-- none of the classes of the tokens' bytes holds it
 pub record NoLF : Type 0 where
   pub blank : isBlank 10 ≡ false
   pub comment : inComment 10 ≡ false
@@ -76,15 +34,6 @@ pub record NoLF : Type 0 where
 pub no-lf : NoLF
 unfolding isBlank inComment startsPart inAccount isCapital isSmall isDigit inCurrency inTag inLink
 no-lf = record { blank = refl; comment = refl; part = refl; account = refl; capital = refl; currency = refl; tag = refl; link = refl }
-
--- every place of a text that ends in a line feed is inside a line
-has-last : (r : List ℕ) → hasLF (r ++ (10 ∷ [])) ≡ true
-unfolding hasLF
-has-last [] = refl
-has-last (x ∷ r) = rw (has-last r) (or-true (eqb x 10))
-
-pub inside : (front : List ℕ) (at : ℕ) → at < length (front ++ (10 ∷ [])) → In (front ++ (10 ∷ [])) at
-inside front at h = rw (drop-append-le at front (10 ∷ []) (omega (arith, length-append front (10 ∷ [])))) (has-last (drop at front))
 
 -- ---- the boundary
 

@@ -1,9 +1,7 @@
--- Laws of the joins of readers, over their answers alone.
---     Reach   what is read ends at i or after it, and within n; a refusal stands within n
---     Same    two answers are the same and end before m
-use Prim.Native.Nat.{ℕ, zero, suc, _+_, _≤_, _<_}
+-- Laws of the joins of readers, over their answers alone. Reach: what is read ends at i or after it, and within n; a refusal stands within n.
+use Prim.Native.Nat.{ℕ, zero, suc, _≤_}
 use native.Mathlib.Omega.{arith}
-use mathlib.Core.Path.{_≡_, refl, sym, _∙_, ap, subst}
+use mathlib.Core.Path.{_≡_, refl, ap}
 use mathlib.Core.Bool.{Bool, true, false, cond}
 use mathlib.Core.List.{List, [], _++_, append-assoc}
 use Rattle.text.specs.Answer.{Ans, To, Miss, Hard, _then_, must, _else_, more, _and_, maybe, many}
@@ -84,122 +82,6 @@ module _ {A : Type 0} (n : ℕ) where
   many-reach f r (suc d) i h =
       maybe-reach i i (f i and many f d) (omega arith) h
       (and-reach i i (f i) (many f d) (r i h) (λ j p q. reach-from n j i (many f d j) p (many-reach f r d j q)))
-
--- ---- Same
-
-abbrev pub Stop : {A : Type 0} → ℕ → Ans A → Type 0
-Stop m (To j x) = j < m
-Stop m Miss = Unit {0}
-Stop m (Hard k p) = Unit {0}
-
-pub record Same {A : Type 0} (m : ℕ) (a b : Ans A) : Type 0 where
-  pub eq : a ≡ b
-  pub stop : Stop m b
-
-pub to-same : {A : Type 0} (m j : ℕ) (x : A) → j < m → Same m (To j x) (To j x)
-to-same m j x h = record { eq = refl; stop = h }
-
-pub miss-same : {A : Type 0} (m : ℕ) (a b : Ans A) → a ≡ Miss → b ≡ Miss → Same m a b
-miss-same m a b p q = record { eq = p ∙ sym q; stop = subst (Stop m) (sym q) tt }
-
--- what ends within n ends before n + 1
-pub reach-stop : {A : Type 0} (n i : ℕ) (a : Ans A) → Reach n i a → Stop (suc n) a
-reach-stop n i (To j x) r = omega arith
-reach-stop n i Miss r = tt
-reach-stop n i (Hard k p) r = tt
-
-pub same-below : {A : Type 0} (m k : ℕ) (a b : Ans A) → m ≤ k → Same m a b → Same k a b
-same-below {A} m k a b h S = record { eq = S .eq; stop = on b (S .stop) }
-  where
-    on : (b : Ans A) → Stop m b → Stop k b
-    on (To j x) l = omega arith
-    on Miss l = tt
-    on (Hard i p) l = tt
-
-pub cond-same : {R A : Type 0} (f : R → Ans A) (m : ℕ) (t : Bool) (x y u v : R)
-    → (t ≡ true → Same m (f x) (f y)) → (t ≡ false → Same m (f u) (f v)) → Same m (f (cond t x u)) (f (cond t y v))
-cond-same f m true x y u v g h = g refl
-cond-same f m false x y u v g h = h refl
-
-pub must-same : {A : Type 0} (m at : ℕ) (a b : Ans A) → Same m a b → Same m (must at a) (must at b)
-unfolding must
-must-same {A} m at a b S = record { eq = ap (must at) (S .eq); stop = on b (S .stop) }
-  where
-    on : (b : Ans A) → Stop m b → Stop m (must at b)
-    on (To j x) l = l
-    on Miss l = tt
-    on (Hard i p) l = tt
-
-pub else-same : {A : Type 0} (m : ℕ) (a b c d : Ans A) → Same m a b → Same m c d → Same m (a else c) (b else d)
-unfolding _else_
-else-same {A} m a b c d S T = rw (S .eq) (on b (S .stop))
-  where
-    on : (b : Ans A) → Stop m b → Same m (b else c) (b else d)
-    on (To j x) l = to-same m j x l
-    on Miss l = T
-    on (Hard i p) l = record { eq = refl; stop = tt }
-
-pub then-same : {A B : Type 0} (m k : ℕ) (a b : Ans A) (g h : ℕ → A → Ans B) → Same m a b
-    → ((j : ℕ) (x : A) → j < m → Same k (g j x) (h j x)) → Same k (a then g) (b then h)
-unfolding _then_
-then-same {A} {B} m k a b g h S f = rw (S .eq) (on b (S .stop))
-  where
-    on : (b : Ans A) → Stop m b → Same k (b then g) (b then h)
-    on (To j x) l = f j x l
-    on Miss l = record { eq = refl; stop = tt }
-    on (Hard i p) l = record { eq = refl; stop = tt }
-
-module _ {A : Type 0} where
-  more-same : (m : ℕ) (xs : List A) (a b : Ans (List A)) → Same m a b → Same m (more xs a) (more xs b)
-  unfolding more
-  more-same m xs a b S = record { eq = ap (more xs) (S .eq); stop = on b (S .stop) }
-    where
-      on : (b : Ans (List A)) → Stop m b → Stop m (more xs b)
-      on (To j ys) l = l
-      on Miss l = tt
-      on (Hard i p) l = tt
-
-  -- what follows may know what the first read
-  and-at : (m k : ℕ) (a b : Ans (List A)) (g h : ℕ → Ans (List A)) → Same m a b
-      → ((j : ℕ) (x : List A) → b ≡ To j x → j < m → Same k (g j) (h j)) → Same k (a and g) (b and h)
-  unfolding _and_
-  and-at m k a b g h S f = rw (S .eq) (on b refl (S .stop))
-    where
-      on : (c : Ans (List A)) → b ≡ c → Stop m c → Same k (c and g) (c and h)
-      on (To j x) e l = more-same k x (g j) (h j) (f j x e l)
-      on Miss e l = record { eq = refl; stop = tt }
-      on (Hard i p) e l = record { eq = refl; stop = tt }
-
-  pub and-same : (m k : ℕ) (a b : Ans (List A)) (g h : ℕ → Ans (List A)) → Same m a b
-      → ((j : ℕ) → j < m → Same k (g j) (h j)) → Same k (a and g) (b and h)
-  and-same m k a b g h S f = and-at m k a b g h S (λ j x e l. f j l)
-
-  pub maybe-same : (m at : ℕ) (a b : Ans (List A)) → at < m → Same m a b → Same m (maybe at a) (maybe at b)
-  unfolding maybe
-  maybe-same m at a b h S = record { eq = ap (maybe at) (S .eq); stop = on b (S .stop) }
-    where
-      on : (b : Ans (List A)) → Stop m b → Stop m (maybe at b)
-      on (To j x) l = l
-      on Miss l = h
-      on (Hard i p) l = tt
-
-  -- repetition of a reader that takes a byte at least: the bounds on the turns do not count, if they are enough
-  pub many-same : (m n : ℕ) (f g : ℕ → Ans (List A)) → ((i : ℕ) → i < m → Same m (f i) (g i)) → ((i : ℕ) → i < m → Reach n (i + 1) (g i))
-      → (d e i : ℕ) → i < m → m ≤ i + d → m ≤ i + e → Same m (many f d i) (many g e i)
-  unfolding many
-  many-same m n f g S R zero e i h p q = absurd (omega arith)
-  many-same m n f g S R (suc d) zero i h p q = absurd (omega arith)
-  many-same m n f g S R (suc d) (suc e) i h p q =
-      maybe-same m i (f i and many f d) (g i and many g e) h
-      (and-at m m (f i) (g i) (many f d) (many g e) (S i h) (λ j x w l.
-      let r = subst (Reach n (i + 1)) w (R i h) in
-      many-same m n f g S R d e j l (omega arith) (omega arith)))
-
-  pub many-turns : (n : ℕ) (f : ℕ → Ans (List A)) → ((i : ℕ) → i ≤ n → Reach n (i + 1) (f i))
-      → (d e i : ℕ) → i ≤ n → n < i + d → n < i + e → many f d i ≡ many f e i
-  many-turns n f R d e i h p q =
-      many-same (suc n) n f f (λ j l. record { eq = refl; stop = reach-stop n (j + 1) (f j) (R j (omega arith)) }) (λ j l. R j (omega arith))
-      d e i (omega arith) (omega arith) (omega arith) .eq
 
 -- ---- chains
 

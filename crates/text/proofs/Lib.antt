@@ -14,11 +14,13 @@ pub mod StringLaws
 pub mod PermittedLaws
 pub mod PlainLaws
 pub mod Joins
+pub mod Alike
 pub mod Inversions
 pub mod DayLaws
 pub mod Ats
 pub mod StringSame
 pub mod InLine
 pub mod Compared
+pub mod SharedLines
 pub mod TokenEnds
-pub mod TokenSame
+pub mod TextCut

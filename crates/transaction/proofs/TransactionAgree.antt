@@ -14,20 +14,22 @@ use Rattle.text.specs.Answer.{To, Miss, Hard, must, _else_, more, _and_}
 use Rattle.text.specs.Leaves.{token, gap, string, tag, link, lineEnd}
 use Rattle.text.proofs.Steps.{run-stops, run-ends}
 use Rattle.text.proofs.InLine.{hasLF, starts, start-not, start-bounds}
-use Rattle.text.proofs.Joins.{Reach, reach-from, must-reach, and-reach, Same, to-same, miss-same, same-below, else-same, and-same, many-same}
+use Rattle.text.proofs.Joins.{Reach, reach-from, must-reach, and-reach}
+use Rattle.text.proofs.Alike.{Same, Upto, upto, both-to, to-same, miss-same, same-below, else-alike, and-alike, many-alike}
+use Rattle.text.proofs.SharedLines.{Shared, told, blanks-alike, gap-alike, tag-alike, link-alike, word-alike}
 use Rattle.text.proofs.StringSame.{string-ends}
 use Rattle.text.proofs.TokenEnds.{gap-reach, line-reach, string-reach}
-use Rattle.text.proofs.TokenSame.{xs, ys, s, seam, past-end, at-seam, gap-same, tag-same, link-same, word-same}
+use Rattle.text.proofs.TextCut.{xs, ys, s, cut, seam, past-end, at-seam, gap-same}
 use Rattle.amount.specs.declared.detail.Detail.{Detail}
 use Rattle.amount.specs.Details.{Rows, span}
 use Rattle.row.specs.Strings.{counted}
 use Rattle.row.proofs.SureLaws.{Sure, sure-must, sure-many, sure-and}
 use Rattle.posting.specs.Metadata.{metadata}
-use Rattle.posting.specs.Postings.{flag, body}
+use Rattle.posting.specs.Postings.{body}
 use Rattle.posting.proofs.PostingEnds.{optional-reach, metadata-reach, body-reach}
 use Rattle.posting.proofs.Agree.{torn, torn-right, Agrees, misses, refuses, crosses, same-agree, agree-below, more-agree, else-agree, and-agree, and-loose, maybe-agree}
 use Rattle.posting.proofs.StringAgree.{span-torn, Seen, missed, read, crossed, seen, string-agree}
-use Rattle.posting.proofs.PostingSame.{blanks-same, blanks-below, flag-same}
+use Rattle.posting.proofs.PostingAlike.{flag-alike}
 use Rattle.posting.proofs.PostingAgree.{longer, line-agree, metadata-agree, sure-metadata, body-agree, sure-body}
 use Rattle.transaction.specs.Transaction.{opening, texts, mark, marks, transaction}
 use Rattle.transaction.proofs.TransactionEnds.{mark-reach, marks-reach, texts-reach}
@@ -115,24 +117,22 @@ module _ (front t : List ℕ) (b : ℕ) (B : starts b ≡ true) where
   abbrev N : ℕ
   N = length S
 
+  abbrev C : Shared (Unit {0}) S X (Upto M) (Upto (suc M))
+  C = cut front t b B
+
   opening-same : (at : ℕ) → at < M → Same (suc M) (opening S at) (opening X at)
   unfolding opening
   opening-same at h =
-      else-same (suc M) _ _ _ _
-      (and-same (suc M) (suc M) (flag S at) (flag X at) _ _ (flag-same front t b B at h) (λ e l. to-same (suc M) e (span 20 at e ∷ []) l))
-      (same-below M (suc M) _ _ (omega arith) (word-same front t b B (bytes "txn") txn-lf at h))
+      let T : Upto (suc M) (at + 1) (at + 1) = upto (at + 1) (omega arith) in
+      else-alike (and-alike _ _ (flag-alike C (upto at h) T) (λ c d U. both-to c d _ _ U (λ _. rw (U .same)))) (same-below (omega arith) (word-alike C (bytes "txn") txn-lf (upto at h)))
 
   -- ---- tags and links, also at the cut
 
   mark-below : (at : ℕ) → at < M → Same M (mark S at) (mark X at)
   unfolding mark
   mark-below at h =
-      let a = blanks X at in
-      let l = blanks-below front t b B at h in
-      rw (blanks-same front t b B at h)
-      (else-same M _ _ _ _
-      (and-same M M (tag S a) (tag X a) _ _ (tag-same front t b B a l) (λ e h₁. to-same M e (span 23 (a + 1) e ∷ []) h₁))
-      (and-same M M (link S a) (link X a) _ _ (link-same front t b B a l) (λ e h₁. to-same M e (span 24 (a + 1) e ∷ []) h₁)))
+      let T = blanks-alike C (upto at h) in
+      else-alike (and-alike _ _ (tag-alike C T) (λ c d U. both-to c d _ _ U (λ q. rw (told C T q, told C U q)))) (and-alike _ _ (link-alike C T) (λ c d U. both-to c d _ _ U (λ q. rw (told C T q, told C U q))))
 
   longer-mark : mark S M ≡ Miss
   longer-mark =
@@ -145,18 +145,19 @@ module _ (front t : List ℕ) (b : ℕ) (B : starts b ≡ true) where
 
   mark-same : (at : ℕ) → at < suc M → Same (suc M) (mark S at) (mark X at)
   mark-same = at-seam front t b B (λ at. Same (suc M) (mark S at) (mark X at))
-      (λ at h. same-below M (suc M) (mark S at) (mark X at) (omega arith) (mark-below at h)) (miss-same (suc M) (mark S M) (mark X M) longer-mark cut-mark)
+      (λ at h. same-below (omega arith) (mark-below at h)) (miss-same (suc M) (mark S M) (mark X M) longer-mark cut-mark)
 
   marks-same : (at : ℕ) → at < suc M → Same (suc M) (marks S at) (marks X at)
   unfolding marks
   marks-same at h =
-      many-same (suc M) M (mark S) (mark X) mark-same (λ i l. mark-reach X i (omega arith)) (suc N) (suc M) at h (omega (arith, longer front t b B)) (omega arith)
+      many-alike N M (λ i j T. omega (arith, T .same, T .below, longer front t b B)) (mark S) (mark X) (λ i j T. rw (T .same) (mark-same j (T .below))) (mark-reach S) (mark-reach X)
+      (suc N) (suc M) at at (upto at h) (omega arith) (omega arith)
 
   -- ---- the strings
 
   second-agree : (a e : ℕ) → e < M → Agrees M M false (second S a e) (second X a e)
   second-agree a e h =
-      else-agree {t = true} (and-agree (gap-same front t b B e (omega arith)) (λ g h₁.
+      else-agree {t = true} (and-agree (gap-alike C (upto e h)) (λ g h₁.
       string-agree front t b B (λ lo hi. span 21 (a + 1) (e - 1) ∷ span 22 lo hi ∷ [])
       (λ lo hi p q. torn-right M (span 21 (a + 1) (e - 1) ∷ []) (span 22 lo hi ∷ []) (span-torn M 22 lo hi p q counted-22 refl [])) g (omega arith)))
       (same-agree (to-same M e (span 22 (a + 1) (e - 1) ∷ []) h))
