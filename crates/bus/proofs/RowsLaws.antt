@@ -11,9 +11,10 @@ use lib.ListN.{length, take, drop, length-append, length-drop}
 use lib.Seq.{sets, drop-drop, length-sets}
 use mir.Syntax.{w64}
 use mir.Val.{Fits}
+use Rattle.decimal.specs.Exact.{largest}
 use Rattle.row.proofs.FieldLaws.{sets-append}
 use Rattle.bus.specs.declared.writer.Measured.{Measured}
-use Rattle.bus.specs.Writing.{rowOf, fault, rowFields, faults, packet, largest}
+use Rattle.bus.specs.Writing.{rowOf, fault, rowFields, faults, packet}
 use Rattle.bus.specs.steps.Measuring.{measuredBy, rowMeasured, measuredFrom}
 use Rattle.bus.specs.steps.Putting.{RowFits, RowsFit}
 use Rattle.row.specs.Row.{width}

@@ -9,11 +9,12 @@ use borrow.Author.Tests.{le-leb, lt-leb}
 use lib.Dec.{eqb}
 use lib.ListN.{length}
 use lib.Seq.{sets}
+use Rattle.decimal.specs.Exact.{largest}
 use Rattle.access.proofs.ContentLaws.{front}
 use Rattle.access.specs.declared.written.Written.{Written}
 use Rattle.bus.specs.declared.writer.Measured.{Measured}
 use Rattle.bus.specs.Refusals.{tooShort, notValid}
-use Rattle.bus.specs.Writing.{faults, packet, refusing, written, writtenLeft, largest}
+use Rattle.bus.specs.Writing.{faults, packet, refusing, written, writtenLeft}
 use Rattle.bus.specs.steps.Measuring.{measuredBy, measuredFrom}
 use Rattle.bus.specs.steps.Putting.{RowsFit}
 use Rattle.row.specs.Row.{room}

@@ -5,6 +5,7 @@ use mathlib.Core.Bool.{cond}
 use mathlib.Core.List.{List, [], _++_}
 use lib.Dec.{eqb, leb}
 use lib.ListN.{length, take, drop}
+use Rattle.decimal.specs.Exact.{largest}
 use Rattle.row.specs.declared.table.Row.{Row}
 use Rattle.row.specs.Row.{width, room}
 use Rattle.access.specs.Spans.{goodSpan, spanText}
@@ -41,10 +42,6 @@ faults s (suc n) u = cond (eqb (fault s (rowOf u)) 0) (faults s n (drop width u)
 unfoldable pub packet : List ℕ → ℕ → List ℕ → List ℕ
 packet s zero u = []
 packet s (suc n) u = rowFields s u ++ packet s n (drop width u)
-
--- the largest number that an answer can hold
-abbrev pub largest : ℕ
-largest = 18446744073709551615
 
 -- 10 for a row count over the table, before any row is looked at
 unfoldable pub refusing : List ℕ → ℕ → List ℕ → ℕ

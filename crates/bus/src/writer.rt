@@ -9,8 +9,9 @@ ghost use mathlib.Core.Path.{_≡_};
 ghost use Prim.Native.Nat.{_+_, _*_, _≤_, min};
 ghost use lib.ListN.{length};
 ghost use lib.Seq.{sets};
+ghost use Rattle.decimal.specs.Exact.{largest};
 ghost use Rattle.row.specs.Row.{width};
-ghost use Rattle.bus.specs.Writing.{rowFields, packet, largest, written, writtenLeft};
+ghost use Rattle.bus.specs.Writing.{rowFields, packet, written, writtenLeft};
 ghost use Rattle.bus.specs.steps.Measuring.{rowMeasured, measuredFrom};
 ghost use Rattle.bus.specs.steps.Putting.{RowFits, RowsFit};
 

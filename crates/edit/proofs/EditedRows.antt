@@ -21,6 +21,7 @@ use Rattle.row.specs.Row.{width, rowsBytes, feeds}
 use Rattle.row.specs.Strings.{isStart, cuts}
 use Rattle.row.proofs.PourLaws.{le-or-lt}
 use Rattle.row.proofs.LineLaws.{feeds-le}
+use Rattle.row.specs.Field.{fieldLimit}
 use Rattle.entry.proofs.EntryLines.{OnLine}
 use Rattle.entry.proofs.EntryCut.{Ends}
 use Rattle.ledger.specs.Plain.{accepted}
@@ -32,7 +33,7 @@ use Rattle.recovery.proofs.BlocksLaws.{recover-kept}
 use Rattle.row.proofs.PourLaws.{length-rowsBytes}
 use Rattle.recovery.proofs.FrontLaws.{rows-append}
 use Rattle.recovery.proofs.CallLaws.{starts-is, ends-is, recovered-is}
-use Rattle.edit.specs.Edits.{isNew, edited, fieldLimit, distance, shift, before, from, editRows}
+use Rattle.edit.specs.Edits.{isNew, edited, distance, shift, before, from, editRows}
 use Rattle.edit.specs.Afresh.{Edit, editedRows, Afresh, BeforeStay}
 use Rattle.edit.proofs.BlockTests.{or-cases, block-starts, block-ends, block-bounds}
 use Rattle.edit.proofs.MoveLaws.{moveAll, recover-all, Joined, joined-rows}

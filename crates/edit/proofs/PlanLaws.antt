@@ -11,10 +11,11 @@ use Rattle.row.specs.declared.table.Row.{Row}
 use Rattle.row.specs.Row.{width, rowIn, rowsIn, feeds, pour, room}
 use Rattle.row.proofs.PourLaws.{pour-all}
 use Rattle.row.proofs.LineLaws.{feeds-le}
+use Rattle.row.specs.Field.{fieldLimit}
 use Rattle.ledger.specs.Plain.{accepted}
 use Rattle.ledger.specs.Answers.{answer, left}
 use Rattle.ledger.specs.declared.read.Answer.{Answer}
-use Rattle.edit.specs.Edits.{fieldLimit, such, before, from, editRows, editing}
+use Rattle.edit.specs.Edits.{such, before, from, editRows, editing}
 use Rattle.edit.specs.declared.moves.By.{By}
 use Rattle.edit.specs.declared.pick.Pick.{Pick}
 use Rattle.edit.specs.declared.reread.Plan.{Plan}

@@ -5,7 +5,8 @@ use mathlib.Core.Bool.{Bool, true, false, cond}
 use mathlib.Core.List.{List, [], _∷_, _++_, map}
 use Rattle.text.specs.Every.{Every}
 use Rattle.row.specs.declared.table.Row.{Row}
-use Rattle.edit.specs.Edits.{fieldLimit, such}
+use Rattle.row.specs.Field.{fieldLimit}
+use Rattle.edit.specs.Edits.{such}
 use Rattle.row.proofs.ReadBack.{wrapped}
 use Rattle.edit.proofs.RowBytes.{low-field}
 

@@ -10,6 +10,7 @@ use Rattle.row.specs.declared.table.Row.{Row}
 use Rattle.row.specs.Row.{rowsIn, feeds, room}
 use Rattle.row.specs.Details.{spanned}
 use Rattle.row.specs.Strings.{cuts}
+use Rattle.row.specs.Field.{fieldLimit}
 use Rattle.ledger.specs.Plain.{Reading, accepted, denied}
 use Rattle.recovery.specs.Recovering.{blockLength, recoverFrom}
 use Rattle.recovery.specs.Demand3.{startsTail, endsLine}
@@ -31,10 +32,6 @@ unfoldable pub edited : List ℕ → ℕ → ℕ → List ℕ → List ℕ
 edited s a e y = take a s ++ (y ++ drop e s)
 
 -- ---- the rows of the answer, whatever rows are given
-
--- a field's numbers are below it
-abbrev pub fieldLimit : ℕ
-fieldLimit = 4294967296
 
 -- how far what stands behind the block is moved: what was n is k now
 abbrev pub distance : ℕ → ℕ → ℕ

@@ -1,6 +1,7 @@
 // Rows that are moved, modulo 4,294,967,296.
 use amount::kind;
 use row::table;
+use row::table::FIELD;
 use row::table::Row;
 use row::table::WIDTH;
 use row::writer;
@@ -12,11 +13,9 @@ ghost use lib.ListN.{length};
 ghost use Rattle.amount.specs.Kinds.{refusalKind};
 ghost use Rattle.row.specs.Row.{width};
 ghost use Rattle.row.specs.Details.{spanned};
-ghost use Rattle.edit.specs.Edits.{fieldLimit, moveOn};
+ghost use Rattle.row.specs.Field.{fieldLimit};
+ghost use Rattle.edit.specs.Edits.{moveOn};
 ghost use Rattle.edit.specs.steps.Moving.{Small, shiftBy, movedIn};
-
-// A field's numbers are below it.
-pub const FIELD: usize = 4294967296;
 
 // So many bytes and lines on.
 pub struct By {

@@ -1,13 +1,13 @@
 // Rereading only what was edited. All rows are counted before the first is written.
 use crate::moves;
 use crate::moves::By;
-use crate::moves::FIELD;
 use crate::pick;
 use crate::pick::Pick;
 use crate::span;
 use ledger::read::Answer;
 use recovery::recover;
 use row::lines;
+use row::table::FIELD;
 use row::table::WIDTH;
 use text::permitted::SIZE;
 ghost use mathlib.Core.Path.{_≡_};

@@ -8,7 +8,7 @@ use mathlib.Core.List.{List, [], _∷_, _++_}
 use borrow.Author.Tests.{le-leb, lt-leb, ne-eqb}
 use lib.ListN.{drop, drop-of-length-le, length, getD}
 use lib.Dec.{eqb}
-use Rattle.decimal.specs.Exact.{limit, sized, wholeOf, decimalOf, twosOf}
+use Rattle.decimal.specs.Exact.{limit, sized, wholeOf, decimalOf, twosOf, wordLimit, minusFrom}
 use Rattle.decimal.specs.declared.Form.the-variants.{Rounding}
 use Rattle.decimal.specs.declared.Value.{Value}
 use Rattle.decimal.specs.declared.Value.the-variants.{Known}
@@ -129,15 +129,15 @@ pub record Form (v : ℕ) : Type 0 where
 up-form : (n : ℕ) → n ≤ limit → Form n
 unfolding valueText twosOf decimalOf
 up-form zero h = record { minus = false; size = 0; small = h; text = refl; bits = refl }
-up-form (suc n) h = record { minus = false; size = suc n; small = h; text = rw (lt-leb 9223372036854775808 (suc n) (omega arith)); bits = rw (ne-eqb (suc n) 0 (λ e. absurd (omega arith))) }
+up-form (suc n) h = record { minus = false; size = suc n; small = h; text = rw (lt-leb minusFrom (suc n) (omega arith)); bits = rw (ne-eqb (suc n) 0 (λ e. absurd (omega arith))) }
 
-down-form : (n : ℕ) → suc n ≤ limit → Form (18446744073709551616 - suc n)
+down-form : (n : ℕ) → suc n ≤ limit → Form (wordLimit - suc n)
 unfolding valueText twosOf decimalOf
 down-form n h = record {
   minus = true;
   size = suc n;
   small = h;
-  text = rw (le-leb 9223372036854775808 (18446744073709551616 - suc n) (omega arith)) (ap (λ z. 45 ∷ sizeText z) {x = 18446744073709551616 - (18446744073709551616 - suc n)} {y = suc n} (omega arith));
+  text = rw (le-leb minusFrom (wordLimit - suc n) (omega arith)) (ap (λ z. 45 ∷ sizeText z) {x = wordLimit - (wordLimit - suc n)} {y = suc n} (omega arith));
   bits = rw (ne-eqb (suc n) 0 (λ e. absurd (omega arith)));
 }
 

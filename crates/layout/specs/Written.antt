@@ -5,6 +5,7 @@ use Prim.Native.Char.{code}
 use mathlib.Core.Bool.{Bool, true, cond, _&&_, _||_}
 use mathlib.Core.List.{List, [], _∷_, _++_}
 use lib.Dec.{eqb, leb, ltb}
+use Rattle.decimal.specs.Exact.{wordLimit, minusFrom}
 use Rattle.text.specs.Bytes.{bytes}
 use Rattle.amount.specs.Kinds.{blankKind, optionKind, includeKind, pushtagKind, poptagKind, transactionKind, priceKind, balanceKind, openKind, closeKind, padKind, commodityKind}
 use Rattle.amount.specs.Kinds.{firstDetail, flagKind, payeeKind, narrationKind, tagKind, linkKind, accountKind, amountKind, toleranceKind, costKind, unitPriceKind, totalPriceKind}
@@ -47,7 +48,7 @@ sizeText n = wholeText 8 (n / 1000000) ++ fractionText (n % 1000000)
 
 -- a row's value, which stands in eight bytes, two's complement
 unfoldable pub valueText : ℕ → List ℕ
-valueText v = cond (leb 9223372036854775808 v) (code "-" ∷ sizeText (18446744073709551616 - v)) (sizeText v)
+valueText v = cond (leb minusFrom v) (code "-" ∷ sizeText (wordLimit - v)) (sizeText v)
 
 -- year times 10,000 plus month times 100 plus day
 unfoldable pub dateText : ℕ → List ℕ

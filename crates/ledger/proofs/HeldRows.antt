@@ -8,7 +8,7 @@ use borrow.Author.Tests.{leb-true, ltb-false}
 use lib.Dec.{leb, ltb}
 use lib.ListN.{length, getD, take, drop, length-drop}
 use lib.Seq.{getD-drop, length-take-le}
-use Rattle.decimal.specs.Exact.{twosOf}
+use Rattle.decimal.specs.Exact.{twosOf, wordLimit}
 use Rattle.text.specs.Permitted.{clean, sizeLimit}
 use Rattle.text.proofs.PermittedLaws.{clean-bytes}
 use Rattle.text.specs.Every.{Every}
@@ -33,7 +33,7 @@ record Sized (n : ℕ) (r : Row) : Type 0 where
   p : r .p ≤ n + 100000000
   q : r .q ≤ n
   flag : r .kind ≡ postingKind → r .p < 256
-  bits : r .bits < 18446744073709551616
+  bits : r .bits < wordLimit
 
 abbrev Bytes : List ℕ → Type 0
 Bytes s = (i : ℕ) → getD s i 0 < 256

@@ -8,6 +8,7 @@ use borrow.Author.Tests.{eq-eqb}
 use lib.Dec.{eqb, leb}
 use lib.ListN.{length, take, drop}
 use lib.Seq.{take-append-seam}
+use Rattle.decimal.specs.Exact.{largest}
 use Rattle.text.proofs.TestLaws.{absurd-bool}
 use Rattle.row.specs.declared.table.Row.{Row}
 use Rattle.row.specs.Row.{rowsBytes, room, width}
@@ -16,7 +17,7 @@ use Rattle.ledger.specs.Answers.{answer, left}
 use Rattle.ledger.specs.declared.read.Answer.{Answer}
 use Rattle.access.specs.declared.written.Written.{Written}
 use Rattle.bus.specs.Back.{all, heldIn, items}
-use Rattle.bus.specs.Writing.{packet, refusing, written, writtenLeft, largest}
+use Rattle.bus.specs.Writing.{packet, refusing, written, writtenLeft}
 use Rattle.bus.proofs.BackLaws.{reads-back}
 use Rattle.bus.proofs.RowItems.{items-rows}
 use Rattle.lumbrisse.specs.declared.reply.Reply.{Reply}

@@ -6,6 +6,7 @@ use lib.ListN.{length}
 use Rattle.decimal.specs.Exact
 use Rattle.decimal.specs.Rounding
 use Rattle.decimal.specs.declared.Form.{Form}
+use Rattle.decimal.specs.Exact.{wordLimit}
 use Rattle.text.specs.Accounts
 use Rattle.text.specs.Answer
 use Rattle.text.specs.Bytes
@@ -72,7 +73,7 @@ abbrev pub stops : Form → List ℕ → ℕ → ℕ → Asked × Told
 stops form s e n = (expression form s, evaluated (record { number = 0; place = e; bits = n }))
 
 abbrev pub stopsBelow : Form → List ℕ → ℕ → ℕ → Asked × Told
-stopsBelow form s e n = stops form s e (18446744073709551616 - n)
+stopsBelow form s e n = stops form s e (wordLimit - n)
 
 -- one that is refused with a number, at a place
 abbrev pub refuses : Form → List ℕ → ℕ → ℕ → Asked × Told

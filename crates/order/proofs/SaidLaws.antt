@@ -6,7 +6,7 @@ use mathlib.Core.Bool.{Bool, true, false, cond, not}
 use mathlib.Core.List.{List, [], _∷_, map, map-map, List·Permᴰ, Permᴰ·symm, List·Permᴰ·trans}
 use borrow.Author.Tests.{lt-ltb, le-ltb}
 use lib.ListN.{length-map}
-use Rattle.decimal.specs.Exact.{limit, sized, twosOf}
+use Rattle.decimal.specs.Exact.{limit, sized, twosOf, wordLimit, minusFrom}
 use Rattle.order.specs.Order.{Said, mayPrecede, by}
 use Rattle.order.specs.Sorted.{insert, sorted}
 use Rattle.order.specs.Sums.{wholeFrom, summed}
@@ -135,8 +135,8 @@ lines-perm f g xs ys h = lines-said f xs ∙ said-perm h ∙ sym (lines-said g y
 
 pub whole-twos : (m : Bool) (n : ℕ) → n ≤ limit → wholeFrom (twosOf (sized m n)) ≡ sized m n
 unfolding wholeFrom twosOf
-whole-twos false n h = rw (lt-ltb n 9223372036854775808 (omega arith))
+whole-twos false n h = rw (lt-ltb n minusFrom (omega arith))
 whole-twos true zero h = refl
 whole-twos true (suc n) h =
-    let e : 18446744073709551616 - (18446744073709551616 - suc n) ≡ suc n = omega arith in
-    rw (le-ltb (18446744073709551616 - suc n) 9223372036854775808 (omega arith), e)
+    let e : wordLimit - (wordLimit - suc n) ≡ suc n = omega arith in
+    rw (le-ltb (wordLimit - suc n) minusFrom (omega arith), e)

@@ -10,7 +10,7 @@ use lib.IntN.{ℤ, pos, negℤ, _+ℤ_, _-ℤ_, +ℤ-assoc, +ℤ-comm, +ℤ-idr,
 use lib.ListN.{length}
 use Rattle.decimal.specs.declared.Value.{Value}
 use Rattle.decimal.specs.declared.Value.the-variants.{Refused}
-use Rattle.decimal.specs.Exact.{exact, exactly}
+use Rattle.decimal.specs.Exact.{exact, exactly, wordLimit, largest, minusFrom}
 use Rattle.decimal.specs.steps.Judged.{judgedOf, total}
 use Rattle.decimal.proofs.Laws.{exact-large, ones-is}
 use Rattle.decimal.proofs.Whole.{total-met}
@@ -39,8 +39,8 @@ module _ (w : Wide) (x : ℕ) where
   unfolding size
   plus-room = omega arith
 
-  pub plus-carry : w .low < 2 ^ 64 → 18446744073709551615 - w .low < x
-      → size (record { high = w .high + 1; low = x - (18446744073709551615 - w .low) - 1 }) ≡ size w + x
+  pub plus-carry : w .low < 2 ^ 64 → largest - w .low < x
+      → size (record { high = w .high + 1; low = x - (largest - w .low) - 1 }) ≡ size w + x
   unfolding size
   plus-carry l h = omega arith
 
@@ -48,14 +48,14 @@ module _ (w : Wide) (x : ℕ) where
   unfolding size
   less-room h = omega arith
 
-  pub less-borrow : 1 ≤ w .high → w .low < x → x < 2 ^ 64 → size (record { high = w .high - 1; low = 18446744073709551615 - (x - w .low) + 1 }) + x ≡ size w
+  pub less-borrow : 1 ≤ w .high → w .low < x → x < 2 ^ 64 → size (record { high = w .high - 1; low = largest - (x - w .low) + 1 }) + x ≡ size w
   unfolding size
   less-borrow h l b =
-      let e : w .high * 18446744073709551616 ≡ (w .high - 1) * 18446744073709551616 + 18446744073709551616 = borrow (w .high) h in
-      let f : 18446744073709551615 - (x - w .low) + 1 + x ≡ 18446744073709551616 + w .low = omega arith in
+      let e : w .high * wordLimit ≡ (w .high - 1) * wordLimit + wordLimit = borrow (w .high) h in
+      let f : largest - (x - w .low) + 1 + x ≡ wordLimit + w .low = omega arith in
       rw e (omega (arith, f))
     where
-      borrow : (k : ℕ) → 1 ≤ k → k * 18446744073709551616 ≡ (k - 1) * 18446744073709551616 + 18446744073709551616
+      borrow : (k : ℕ) → 1 ≤ k → k * wordLimit ≡ (k - 1) * wordLimit + wordLimit
       borrow k g = omega arith
 
 pub ruleset word-laws = (plus-room, plus-carry, less-room, less-borrow)
@@ -64,48 +64,48 @@ module _ (n : ℕ) (w r : Wide) (x : ℕ) (s : ℤ) where
   held-plus : size r ≡ size w + x → held n w +ℤ (pos x +ℤ s) ≡ held n r +ℤ s
   unfolding held
   held-plus e =
-      let z = negℤ (pos (n * 18446744073709551616)) in
+      let z = negℤ (pos (n * wordLimit)) in
       add-in (pos (size w)) z (pos x) s ∙ ap (λ (m : ℕ). (pos m +ℤ z) +ℤ s) (sym e)
 
   held-less : size r + x ≡ size w → held n w +ℤ (negℤ (pos x) +ℤ s) ≡ held n r +ℤ s
   unfolding held
   held-less e =
-      let z = negℤ (pos (n * 18446744073709551616)) in
+      let z = negℤ (pos (n * wordLimit)) in
       add-in (pos (size w)) z (negℤ (pos x)) s
       ∙ ap (λ (y : ℤ). (y +ℤ z) +ℤ s) (ap (λ (m : ℕ). pos m -ℤ pos x) (sym e) ∙ +ℤ-negℤ-cancel (pos (size r)) (pos x))
 
 module _ (n : ℕ) (w : Wide) (l : w .low < 2 ^ 64) where
-  over : (r : Value) → n * 18446744073709551616 ≤ size w → r ≡ exact false (size w - n * 18446744073709551616) 1 → r ≡ exactly (held n w) 1
+  over : (r : Value) → n * wordLimit ≤ size w → r ≡ exact false (size w - n * wordLimit) 1 → r ≡ exactly (held n w) 1
   unfolding held total
-  over r h e = total-met r false true (size w) (n * 18446744073709551616) (rw (le-leb (n * 18446744073709551616) (size w) h) e)
+  over r h e = total-met r false true (size w) (n * wordLimit) (rw (le-leb (n * wordLimit) (size w) h) e)
 
-  under : (r : Value) → size w < n * 18446744073709551616 → r ≡ exact true (n * 18446744073709551616 - size w) 1 → r ≡ exactly (held n w) 1
+  under : (r : Value) → size w < n * wordLimit → r ≡ exact true (n * wordLimit - size w) 1 → r ≡ exactly (held n w) 1
   unfolding held total
-  under r h e = total-met r false true (size w) (n * 18446744073709551616) (rw (lt-leb (n * 18446744073709551616) (size w) h) e)
+  under r h e = total-met r false true (size w) (n * wordLimit) (rw (lt-leb (n * wordLimit) (size w) h) e)
 
   pub held-up : (r : Value) → w .high ≡ n → r ≡ judgedOf false (w .low) 0 → r ≡ exactly (held n w) 1
   unfolding size
   held-up r h e =
-      let d : size w - n * 18446744073709551616 ≡ w .low = omega arith in
+      let d : size w - n * wordLimit ≡ w .low = omega arith in
       over r (omega arith) (rw d (e ∙ ones-is false (w .low)))
 
-  pub held-down : (r : Value) → w .high < n → n - w .high ≡ 1 → 0 < w .low → r ≡ judgedOf true (18446744073709551615 - w .low + 1) 0 → r ≡ exactly (held n w) 1
+  pub held-down : (r : Value) → w .high < n → n - w .high ≡ 1 → 0 < w .low → r ≡ judgedOf true (largest - w .low + 1) 0 → r ≡ exactly (held n w) 1
   unfolding size
   held-down r h o k e =
-      let d : n * 18446744073709551616 - size w ≡ 18446744073709551615 - w .low + 1 = omega arith in
-      under r (omega arith) (rw d (e ∙ ones-is true (18446744073709551615 - w .low + 1)))
+      let d : n * wordLimit - size w ≡ largest - w .low + 1 = omega arith in
+      under r (omega arith) (rw d (e ∙ ones-is true (largest - w .low + 1)))
 
   pub far-up : (w .high ≡ n → ⊥) → n ≤ w .high → Refused 6 ≡ exactly (held n w) 1
   unfolding size
-  far-up h k = over (Refused 6) (omega arith) (sym (exact-large false (size w - n * 18446744073709551616) 1 (omega arith)))
+  far-up h k = over (Refused 6) (omega arith) (sym (exact-large false (size w - n * wordLimit) 1 (omega arith)))
 
   pub far-down : w .high < n → (n - w .high ≡ 1 → ⊥) → Refused 6 ≡ exactly (held n w) 1
   unfolding size
-  far-down h k = under (Refused 6) (omega arith) (sym (exact-large true (n * 18446744073709551616 - size w) 1 (omega arith)))
+  far-down h k = under (Refused 6) (omega arith) (sym (exact-large true (n * wordLimit - size w) 1 (omega arith)))
 
   pub just-down : w .high < n → n - w .high ≡ 1 → w .low ≤ 0 → Refused 6 ≡ exactly (held n w) 1
   unfolding size
-  just-down h o k = under (Refused 6) (omega arith) (sym (exact-large true (n * 18446744073709551616 - size w) 1 (omega arith)))
+  just-down h o k = under (Refused 6) (omega arith) (sym (exact-large true (n * wordLimit - size w) 1 (omega arith)))
 
 pub ruleset held-laws = (held-up, held-down, far-up, far-down, just-down)
 
@@ -121,11 +121,11 @@ pub sum-start : (t : List ℕ) (w : Wide) → w .high ≡ recordRoom t → w .lo
 unfolding held size
 sum-start t w h l =
     let n = recordRoom t in
-    let e : size w ≡ n * 18446744073709551616 = omega arith in
+    let e : size w ≡ n * wordLimit = omega arith in
     let v = sumOf (map valueIn (recordsFrom t 0 n)) in
     record {
       whole = sym (ap (λ (m : ℕ). held n w +ℤ sumOf (map valueIn (recordsFrom t 0 m))) (sub-zero n)
-          ∙ ap (λ (m : ℕ). (pos m -ℤ pos (n * 18446744073709551616)) +ℤ v) e ∙ ap (λ (z : ℤ). z +ℤ v) (+ℤ-invr (pos (n * 18446744073709551616))) ∙ +ℤ-idl v);
+          ∙ ap (λ (m : ℕ). (pos m -ℤ pos (n * wordLimit)) +ℤ v) e ∙ ap (λ (z : ℤ). z +ℤ v) (+ℤ-invr (pos (n * wordLimit))) ∙ +ℤ-idl v);
       most = omega arith;
       least = omega arith;
       within = omega arith;
@@ -145,22 +145,22 @@ module _ (t : List ℕ) (w : Wide) (i : ℕ) (e : Summing t w i) where
         e .whole ∙ rw (records-step t i (recordRoom t) h, v)
 
     module _ (r : Wide) where
-      pub sum-plus : n < 9223372036854775808 → (size r ≡ size w + n) × (w .high ≤ r .high) × (r .high ≤ w .high + 1) → Summing t r (i + 1)
+      pub sum-plus : n < minusFrom → (size r ≡ size w + n) × (w .high ≤ r .high) × (r .high ≤ w .high + 1) → Summing t r (i + 1)
       unfolding wholeFrom
       sum-plus l k =
           record {
-            whole = value-there (pos n) (rw (lt-ltb n 9223372036854775808 l)) ∙ held-plus (recordRoom t) w r n _ (k .0);
+            whole = value-there (pos n) (rw (lt-ltb n minusFrom l)) ∙ held-plus (recordRoom t) w r n _ (k .0);
             most = omega arith;
             least = omega arith;
             within = omega arith;
           }
 
-      pub sum-less : n < 2 ^ 64 → 9223372036854775808 ≤ n → (size r + (18446744073709551615 - n + 1) ≡ size w) × (r .high ≤ w .high) × (w .high ≤ r .high + 1) → Summing t r (i + 1)
+      pub sum-less : n < 2 ^ 64 → minusFrom ≤ n → (size r + (largest - n + 1) ≡ size w) × (r .high ≤ w .high) × (w .high ≤ r .high + 1) → Summing t r (i + 1)
       unfolding wholeFrom
       sum-less b l k =
-          let x : 18446744073709551616 - n ≡ 18446744073709551615 - n + 1 = omega arith in
+          let x : wordLimit - n ≡ largest - n + 1 = omega arith in
           record {
-            whole = value-there (negℤ (pos (18446744073709551615 - n + 1))) (rw (le-ltb n 9223372036854775808 l, x)) ∙ held-less (recordRoom t) w r (18446744073709551615 - n + 1) _ (k .0);
+            whole = value-there (negℤ (pos (largest - n + 1))) (rw (le-ltb n minusFrom l, x)) ∙ held-less (recordRoom t) w r (largest - n + 1) _ (k .0);
             most = omega arith;
             least = omega arith;
             within = omega arith;

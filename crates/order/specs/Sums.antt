@@ -4,12 +4,12 @@ use mathlib.Core.Bool.{cond}
 use mathlib.Core.List.{List, [], _∷_}
 use lib.Dec.{ltb}
 use lib.IntN.{ℤ, pos, negℤ, _+ℤ_}
-use Rattle.decimal.specs.Exact.{exactly}
+use Rattle.decimal.specs.Exact.{exactly, wordLimit, minusFrom}
 use Rattle.decimal.specs.declared.Value.{Value}
 
 -- the whole number that eight bytes are, two's complement
 unfoldable pub wholeFrom : ℕ → ℤ
-wholeFrom n = cond (ltb n 9223372036854775808) (pos n) (negℤ (pos (18446744073709551616 - n)))
+wholeFrom n = cond (ltb n minusFrom) (pos n) (negℤ (pos (wordLimit - n)))
 
 unfoldable pub sumOf : List ℤ → ℤ
 sumOf [] = pos 0

@@ -7,6 +7,7 @@ use mathlib.Core.Bool.{Bool, true, false, cond, _||_}
 use mathlib.Core.List.{List, [], _∷_, _++_}
 use lib.Dec.{eqb, ltb, leb}
 use lib.ListN.{length, length-append, length-take, length-drop}
+use Rattle.decimal.specs.Exact.{wordLimit, largest, minusFrom}
 use Rattle.text.specs.Bytes.{bytes}
 use Rattle.text.specs.Permitted.{sizeLimit}
 use Rattle.text.specs.Every.{Every}
@@ -47,7 +48,7 @@ size-le n = rw length-append (omega (arith, whole-le 8 (n / 1000000), fraction-l
 
 value-le : (v : ℕ) → length (valueText v) ≤ 17
 unfolding valueText
-value-le v = cond-le 17 (leb 9223372036854775808 v) _ _ (omega (arith, size-le (18446744073709551616 - v))) (omega (arith, size-le v))
+value-le v = cond-le 17 (leb minusFrom v) _ _ (omega (arith, size-le (wordLimit - v))) (omega (arith, size-le v))
 
 date-le : (p : ℕ) → length (dateText p) ≡ 10
 unfolding dateText
@@ -174,13 +175,13 @@ unfolding meaning
 items-long s [] = refl
 items-long s (r ∷ rs) = ap suc (items-long s rs)
 
-pub written-le : (s : List ℕ) (rs : List Row) → length s ≤ sizeLimit → length rs ≤ sizeLimit → length (written s rs) ≤ 18446744073709551615
+pub written-le : (s : List ℕ) (rs : List Row) → length s ≤ sizeLimit → length rs ≤ sizeLimit → length (written s rs) ≤ largest
 unfolding written
 written-le s rs h k =
     let a = printed-le (length s) 0 noItem (meaning s rs) (record { text = omega arith; other = omega arith }) (light-items s rs) in
     big (length s) (length rs) _ (subst (λ (z : ℕ). length (printed 0 noItem (meaning s rs)) ≤ 1 + z * (length s + length s + 60)) (items-long s rs) a) h k
   where
-    big : (n c x : ℕ) → x ≤ 1 + c * (n + n + 60) → n ≤ sizeLimit → c ≤ sizeLimit → x ≤ 18446744073709551615
+    big : (n c x : ℕ) → x ≤ 1 + c * (n + n + 60) → n ≤ sizeLimit → c ≤ sizeLimit → x ≤ largest
     big n c x p h k =
         let m : c * (n + n + 60) ≤ sizeLimit * (n + n + 60) = mul-le-mul-right (n + n + 60) k in
         omega arith

@@ -8,6 +8,7 @@ use borrow.Author.Tests.{le-leb, lt-leb, lt-ltb, le-ltb, ne-eqb}
 use lib.Dec.{eqb}
 use lib.ListN.{length, getD, take}
 use lib.Seq.{take-suc, take-length}
+use Rattle.decimal.specs.Exact.{wordLimit, largest, minusFrom}
 use Rattle.amount.specs.Literal.{between}
 use Rattle.layout.specs.Written.{digit, wholeText, zeros, trimmed, six, fractionText, sizeText, valueText, dateText}
 use Rattle.rewrite.specs.steps.Putting.{Put, Kept}
@@ -126,15 +127,15 @@ pub size-put : (n : ℕ) {t u v : List ℕ} {at r q : ℕ} → Put t at (wholeTe
 unfolding sizeText
 size-put n p k = join p k
 
-pub value-plus : (x : ℕ) {t u : List ℕ} {at r : ℕ} → x < 9223372036854775808 → Put t at (sizeText x) u r → Put t at (valueText x) u r
+pub value-plus : (x : ℕ) {t u : List ℕ} {at r : ℕ} → x < minusFrom → Put t at (sizeText x) u r → Put t at (valueText x) u r
 unfolding valueText
-value-plus x h p = rw (lt-leb 9223372036854775808 x h) p
+value-plus x h p = rw (lt-leb minusFrom x h) p
 
-pub value-minus : (x : ℕ) {t u v : List ℕ} {at r q : ℕ} → 9223372036854775808 ≤ x → x < 2 ^ 64 → Put t at (45 ∷ []) u r → Put u r (sizeText (18446744073709551615 - x + 1)) v q → Put t at (valueText x) v q
+pub value-minus : (x : ℕ) {t u v : List ℕ} {at r q : ℕ} → minusFrom ≤ x → x < 2 ^ 64 → Put t at (45 ∷ []) u r → Put u r (sizeText (largest - x + 1)) v q → Put t at (valueText x) v q
 unfolding valueText
 value-minus x {t} {u} {v} {at} {r} {q} h l p k =
-    let y : 18446744073709551615 - x + 1 ≡ 18446744073709551616 - x = omega arith in
-    rw (le-leb 9223372036854775808 x h) (join p (subst (λ (j : ℕ). Put u r (sizeText j) v q) y k))
+    let y : largest - x + 1 ≡ wordLimit - x = omega arith in
+    rw (le-leb minusFrom x h) (join p (subst (λ (j : ℕ). Put u r (sizeText j) v q) y k))
 
 pub ruleset value-laws = (size-put, value-plus, value-minus)
 

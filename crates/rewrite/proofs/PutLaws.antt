@@ -7,9 +7,10 @@ use mathlib.Core.Path.{_≡_, refl, sym, _∙_, ap, subst}
 use mathlib.Core.List.{List, [], _∷_, _++_}
 use lib.ListN.{length, getD, set, take, drop, length-set, length-append, length-drop, drop-of-length-le}
 use lib.Seq.{take-suc, take-all}
+use Rattle.decimal.specs.Exact.{largest}
 use Rattle.amount.specs.Literal.{between}
 use Rattle.row.proofs.FieldLaws.{sets-append}
-use Rattle.rewrite.specs.steps.Putting.{Put, most}
+use Rattle.rewrite.specs.steps.Putting.{Put}
 
 -- ---- one after the other
 
@@ -19,13 +20,13 @@ put-none t at = record { bytes = λ _ _. refl; next = λ h. omega arith; same = 
 pub join : {t : List ℕ} {at : ℕ} {xs u : List ℕ} {r : ℕ} {ys v : List ℕ} {q : ℕ} → Put t at xs u r → Put u r ys v q → Put t at (xs ++ ys) v q
 join {t} {at} {xs} {u} {r} {ys} {v} {q} p k =
     record {
-      bytes = λ (h : at + length (xs ++ ys) ≤ length t) (m : length t ≤ most).
+      bytes = λ (h : at + length (xs ++ ys) ≤ length t) (m : length t ≤ largest).
           let l = length-append xs ys in
           let n = p .next (omega arith) in
           let e : r ≡ at + length xs = omega arith in
           let s = p .same in
           k .bytes (omega arith) (omega arith) ∙ rw (p .bytes (omega arith) m, e) (sym (sets-append xs ys t at));
-      next = λ (a : at ≤ most). let n = p .next a in k .next (omega arith) ∙ rw (length-append xs ys) (omega arith);
+      next = λ (a : at ≤ largest). let n = p .next a in k .next (omega arith) ∙ rw (length-append xs ys) (omega arith);
       same = k .same ∙ p .same;
     }
 
@@ -35,7 +36,7 @@ module _ (t : List ℕ) (at b : ℕ) where
   pub put-in : at < length t → length t * 1 < 2 ^ 63 → Put t at (b ∷ []) (set t at b) (at + 1)
   put-in h l = record { bytes = λ _ _. refl; next = λ a. omega arith; same = length-set t at b }
 
-  pub put-out : (r : ℕ) → length t ≤ at → r ≡ min (at + 1) most → Put t at (b ∷ []) t r
+  pub put-out : (r : ℕ) → length t ≤ at → r ≡ min (at + 1) largest → Put t at (b ∷ []) t r
   put-out r h e = record { bytes = λ k _. absurd (omega arith); next = λ a. e; same = refl }
 
 pub two-put : {t : List ℕ} {at a b r : ℕ} {u v : List ℕ} {q : ℕ} → Put t at (a ∷ []) u r → Put u r (b ∷ []) v q → Put t at (a ∷ b ∷ []) v q
@@ -62,10 +63,10 @@ module _ (t c : List ℕ) (at i : ℕ) (u : List ℕ) (p : Put t at (take i c) u
 pub ruleset whole-laws = (copy-start, copy-on, copy-end)
 
 -- no room for it
-pub copy-past : (t c : List ℕ) (at r : ℕ) → length t < at → r ≡ min (at + length c) most → Put t at c t r
+pub copy-past : (t c : List ℕ) (at r : ℕ) → length t < at → r ≡ min (at + length c) largest → Put t at c t r
 copy-past t c at r h e = record { bytes = λ k _. absurd (omega arith); next = λ _. e; same = refl }
 
-pub copy-long : (t c : List ℕ) (at r : ℕ) → at ≤ length t → length t - at < length c → r ≡ min (at + length c) most → Put t at c t r
+pub copy-long : (t c : List ℕ) (at r : ℕ) → at ≤ length t → length t - at < length c → r ≡ min (at + length c) largest → Put t at c t r
 copy-long t c at r h l e = record { bytes = λ k _. absurd (omega arith); next = λ _. e; same = refl }
 
 pub ruleset copy-laws = (copy-past, copy-long)

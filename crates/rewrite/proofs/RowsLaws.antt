@@ -11,6 +11,7 @@ use mir.Val.{Fits}
 use lib.Dec.{ltb, leb}
 use lib.ListN.{length, take, drop}
 use lib.Seq.{sets, sets-eq, drop-drop}
+use Rattle.decimal.specs.Exact.{largest}
 use Rattle.row.specs.declared.table.Row.{Row}
 use Rattle.row.specs.Row.{rowIn, rowsIn, width}
 use Rattle.row.specs.Details.{spanned}
@@ -18,7 +19,7 @@ use Rattle.ledger.proofs.ScanLaws.{rest-of}
 use Rattle.layout.specs.Meaning.{Item, texted, naming, itemOf, meaning}
 use Rattle.layout.specs.Written.{headText, detailText, closing, kindOf, printed, noItem}
 use Rattle.rewrite.specs.declared.write.Answer.{Answer}
-use Rattle.rewrite.specs.steps.Putting.{Put, most}
+use Rattle.rewrite.specs.steps.Putting.{Put}
 use Rattle.rewrite.specs.steps.Pieces.{noRow, front, Flagged, AllFlagged, pieceText, kindNow}
 use Rattle.rewrite.specs.steps.Pouring.{Going, Pours}
 use Rattle.rewrite.proofs.PutLaws.{join}
@@ -176,7 +177,7 @@ front-put : (w t : List ℕ) → length w ≤ length t → sets t 0 w ≡ w ++ d
 front-put w t h = rw (zero-add (length w)) at (sets-eq w t 0 (rw (zero-add (length w)) h))
 
 module _ (w o a b : List ℕ) (need : ℕ) (p : Put a 0 w b need) where
-  need-is : need ≡ min (length w) most
+  need-is : need ≡ min (length w) largest
   need-is = p .next (omega arith) ∙ rw (zero-add (length w))
 
   pub pour-short : (r : Answer) → r ≡ Answer.Refusal 9 0 need → length o < need → Pours w o r o

@@ -10,6 +10,7 @@ use lib.ListN.{length, drop, length-append}
 use lib.Seq.{drop-at}
 use mir.Syntax.{w64}
 use mir.Val.{Fits}
+use Rattle.decimal.specs.Exact.{largest}
 use Rattle.text.specs.Permitted.{sizeLimit}
 use Rattle.text.specs.Every.{Every}
 use Rattle.row.specs.declared.table.Row.{Row}
@@ -30,7 +31,6 @@ use Rattle.rewrite.specs.declared.write.Answer.{Answer}
 use Rattle.rewrite.specs.Rewriting.{answered, outputLeft, workLeft, Rewrites}
 use Rattle.rewrite.specs.steps.Pieces.{AllFlagged}
 use Rattle.rewrite.specs.steps.Pouring.{Pours}
-use Rattle.rewrite.specs.steps.Putting.{most}
 use Rattle.rewrite.proofs.LongLaws.{written-le}
 
 -- ---- rows that stand whole in their bytes
@@ -94,7 +94,7 @@ was-all s o w r u x v rs y l k ex ev h =
     let m : rowsIn (length rs) v ≡ rs = ap (rowsIn (length rs)) ev ∙ rows-are (drop (length rs * width) w) rs h in
     let z : Pours (written s rs) o r u = subst (λ (j : List Row). Pours (written s j) o r u) m k in
     let d : drop (length rs * width) v ≡ drop (length rs * width) w = ap (λ (j : List ℕ). drop (length rs * width) j) ev ∙ drop-at (rowsBytes rs) (drop (length rs * width) w) (length rs * width) (length-rowsBytes rs) in
-    let c : min (length (written s rs)) most ≡ length (written s rs) = omega (arith, written-le s rs (plain-size s rs y) (plain-few s rs y)) in
+    let c : min (length (written s rs)) largest ≡ length (written s rs) = omega (arith, written-le s rs (plain-size s rs y) (plain-few s rs y)) in
     record { answer = z .answer ∙ rw (y, q, c); output = z .left ∙ rw (y, q); work = ex ∙ rw (d, y, q) }
 
 module _ (s w : List ℕ) (a : Got) (v : List ℕ) (ea : a ≡ answer (plain s) (room w)) (ev : v ≡ left (plain s) w) where

@@ -4,8 +4,9 @@ ghost use mathlib.Core.Path.{_≡_};
 ghost use mathlib.Core.List.{[], _∷_};
 ghost use Prim.Native.Nat.{_+_, _≤_, min};
 ghost use lib.ListN.{length};
+ghost use Rattle.decimal.specs.Exact.{largest};
 ghost use Rattle.amount.specs.Literal.{between};
-ghost use Rattle.rewrite.specs.steps.Putting.{Put, most};
+ghost use Rattle.rewrite.specs.steps.Putting.{Put};
 
 // One byte.
 pub fn put(out: &mut [u8], at: usize, b: u8) -> usize
@@ -27,7 +28,7 @@ pub fn put_two(out: &mut [u8], at: usize, a: u8, b: u8) -> usize
 
 // The place n bytes further on, or the largest number.
 fn further(at: usize, n: usize) -> usize
-    ensures { λ r. ⌜ r ≡ min (at + n) most ⌝ }
+    ensures { λ r. ⌜ r ≡ min (at + n) largest ⌝ }
 {
     if n <= usize::MAX - at {
         return at + n;

@@ -11,7 +11,7 @@ use lib.ListN.{length, getD, take, drop, set}
 use lib.Seq.{sets, drop-cons, getD-drop}
 use mir.Syntax.{w8, w64}
 use mir.Val.{Fits}
-use Rattle.row.specs.Field.{le, un}
+use Rattle.row.specs.Field.{le, un, fieldLimit}
 
 pub length-le : (k x : ℕ) → length (le k x) ≡ k
 length-le zero x = refl
@@ -111,7 +111,7 @@ get-bytes t at h ea eb ec ed =
 
 -- a number of eight bytes, from its two halves
 pub get-halves : (t : List ℕ) (at : ℕ) {a b : ℕ} → at + 8 ≤ length t → a ≡ un (take 4 (drop at t)) → b ≡ un (take 4 (drop (at + 4) t))
-    → a + 4294967296 * b ≡ un (take 8 (drop at t))
+    → a + fieldLimit * b ≡ un (take 8 (drop at t))
 get-halves t at h ea eb =
     omega (
       arith,
@@ -129,10 +129,10 @@ module _ (t : List ℕ) (h : (i : ℕ) → Fits w8 (getD t i 0)) (at : ℕ) wher
   half-lt : (i : ℕ) → un (take 4 (drop i t)) < 256 ^ 4
   half-lt i = un-lt (drop i t) (λ j. rw getD-drop (omega (arith, h (i + j)))) 4
 
-  pub half-high : {b : ℕ} → b ≡ un (take 4 (drop (at + 4) t)) → Fits w64 (4294967296 * b)
+  pub half-high : {b : ℕ} → b ≡ un (take 4 (drop (at + 4) t)) → Fits w64 (fieldLimit * b)
   half-high e = omega (arith, e, half-lt (at + 4))
 
-  pub halves-fit : {a b : ℕ} → a ≡ un (take 4 (drop at t)) → b ≡ un (take 4 (drop (at + 4) t)) → Fits w64 (a + 4294967296 * b)
+  pub halves-fit : {a b : ℕ} → a ≡ un (take 4 (drop at t)) → b ≡ un (take 4 (drop (at + 4) t)) → Fits w64 (a + fieldLimit * b)
   halves-fit ea eb = omega (arith, ea, eb, half-lt at, half-lt (at + 4))
 
 pub ruleset halves = (get-halves, half-high, halves-fit)

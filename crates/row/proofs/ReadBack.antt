@@ -9,12 +9,12 @@ use mathlib.Core.List.{List, [], _∷_, _++_, map, append-assoc}
 use lib.IntN.{pos, negℤ}
 use lib.ListN.{length, drop}
 use lib.Seq.{drop-at}
-use Rattle.decimal.specs.Exact.{limit, twosOf}
+use Rattle.decimal.specs.Exact.{limit, twosOf, wordLimit}
 use Rattle.decimal.specs.declared.Value.{Value}
 use Rattle.decimal.specs.declared.Value.the-variants.{Known, Refused}
 use Rattle.amount.proofs.ValueSizes.{Small}
 use Rattle.row.specs.declared.table.Row.{Row}
-use Rattle.row.specs.Field.{le, un}
+use Rattle.row.specs.Field.{le, un, fieldLimit}
 use Rattle.row.specs.Pouring.{bytesOf}
 use Rattle.row.specs.Row.{fieldBytes, fieldsIn, width, rowBytes, rowsBytes, rowIn, rowsIn}
 use Rattle.row.specs.Details.{millionths}
@@ -43,10 +43,10 @@ unfolding rowIn fieldsIn rowBytes fieldBytes wrapped
 row-in r b = refl
 
 -- a number that four bytes hold, and one that eight hold
-pub four-back : (x : ℕ) → x < 4294967296 → un (le 4 x) ≡ x
+pub four-back : (x : ℕ) → x < fieldLimit → un (le 4 x) ≡ x
 four-back x h = un-le 4 x ∙ mod-eq-of-lt h
 
-pub eight-back : (x : ℕ) → x < 18446744073709551616 → un (le 8 x) ≡ x
+pub eight-back : (x : ℕ) → x < wordLimit → un (le 8 x) ≡ x
 eight-back x h = un-le 8 x ∙ mod-eq-of-lt h
 
 held-is : (r : Row) → Held r → wrapped r ≡ r
@@ -82,13 +82,13 @@ rows-front (r ∷ rs) b =
     ∙ ap (λ (z : List Row). wrapped r ∷ z) (rows-front rs b)
 
 -- a value within the limit is held by eight bytes
-twos-low : (m : Bool) (n : ℕ) → n ≤ limit → twosOf (cond m (negℤ (pos n)) (pos n)) < 18446744073709551616
+twos-low : (m : Bool) (n : ℕ) → n ≤ limit → twosOf (cond m (negℤ (pos n)) (pos n)) < wordLimit
 unfolding twosOf
 twos-low true zero h = omega arith
 twos-low true (suc n) h = omega arith
 twos-low false n h = omega arith
 
-pub bits-low : (v : Value) → Small v → twosOf (millionths v) < 18446744073709551616
+pub bits-low : (v : Value) → Small v → twosOf (millionths v) < wordLimit
 unfolding millionths
 bits-low (Known d) h = twos-low (d .minus) (d .size) (h .holds)
 bits-low (Refused n) h = twos-low false 0 (omega arith)

@@ -9,7 +9,7 @@ use mathlib.Core.List.{List, [], _∷_, _++_, map, append-assoc}
 use borrow.Author.Tests.{le-leb, lt-leb}
 use lib.ListN.{length, take, drop, take-append-drop, length-append, length-take, length-drop}
 use lib.Seq.{take-append-le, drop-append-le, take-at, drop-at, take-append-add, drop-append-add, sets, sets-eq}
-use Rattle.row.specs.Field.{le, un}
+use Rattle.row.specs.Field.{le, un, fieldLimit}
 use Rattle.row.specs.Pouring.{bytesOf}
 use Rattle.row.specs.Row.{atStart, atLine, atP, fieldBytes, width, rowBytes, rowsBytes, pour, feeds, lined}
 use Rattle.row.specs.steps.Sweep.{LineOf, lineSet, linesSet}
@@ -132,17 +132,17 @@ pub ruleset sweeping = (sweep-short, sweep-end, sweep-start)
 
 -- ---- the lines that are set are the lines of the rows
 
--- every row starts below 4294967296, so that its start stands whole in its four bytes
+-- every row starts below the field limit, so that its start stands whole in its four bytes
 abbrev pub Low : List Row → Type 0
 Low [] = Unit {0}
-Low (r ∷ rs) = (r .start < 4294967296) × Low rs
+Low (r ∷ rs) = (r .start < fieldLimit) × Low rs
 
 pub low-append : (xs ys : List Row) → Low xs → Low ys → Low (xs ++ ys)
 low-append [] ys h k = k
 low-append (x ∷ xs) ys h k = (h .0, low-append xs ys (h .1) k)
 
 module _ (s : List ℕ) where
-  line-of : (r : Row) → r .start < 4294967296 → lineSet s (rowBytes r) ≡ rowBytes (lined s r)
+  line-of : (r : Row) → r .start < fieldLimit → lineSet s (rowBytes r) ≡ rowBytes (lined s r)
   unfolding lineSet rowBytes fieldBytes lined
   line-of r h = let e : un (le 4 (r .start)) ≡ r .start = un-le 4 (r .start) ∙ mod-eq-of-lt h in rw e
 

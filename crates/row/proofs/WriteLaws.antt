@@ -12,7 +12,7 @@ use Rattle.decimal.specs.declared.Decimal.{Decimal}
 use Rattle.decimal.specs.declared.Value.{Value}
 use Rattle.decimal.specs.declared.Value.the-variants.{Known, Refused}
 use Rattle.amount.specs.declared.detail.Detail.{Detail}
-use Rattle.row.specs.Field.{le}
+use Rattle.row.specs.Field.{le, fieldLimit}
 use Rattle.row.specs.Pouring.{poured, pouredAt}
 use Rattle.row.specs.Row.{rowOf, fieldBytes, rowBytes, room, pourAt}
 use Rattle.row.specs.Details.{spanned, millionths, laid, valuePlace}
@@ -27,7 +27,7 @@ four : {a b c d w x y z : ℕ} → a ≡ w → b ≡ x → c ≡ y → d ≡ z �
 four e f g h = rw (e, f, g, h)
 
 -- the low four bytes of a sum are those of the sum with the low four bytes
-low : (b x : ℕ) → le 4 (b + x % 4294967296) ≡ le 4 (b + x)
+low : (b x : ℕ) → le 4 (b + x % fieldLimit) ≡ le 4 (b + x)
 low b x = four (omega arith) (omega arith) (omega arith) (omega arith)
 
 -- a row as the writer makes it: its line is not known yet
@@ -52,13 +52,13 @@ row-same k s e p q b s′ e′ p′ q′ hs he hp hq = rw (fields-same k s e p q
 
 module _ (base : ℕ) (x : Detail) (b : ℕ) (r : Bool) (v : r ≡ spanned (x .kind)) (w : b ≡ twosOf (millionths (x .value))) where
   pub row-span : r ≡ true
-      → rowBytes (unlined (x .kind) (base + x .start % 4294967296) (base + x .end % 4294967296) (base + x .p % 4294967296) (base + x .q % 4294967296) b)
+      → rowBytes (unlined (x .kind) (base + x .start % fieldLimit) (base + x .end % fieldLimit) (base + x .p % fieldLimit) (base + x .q % fieldLimit) b)
       ≡ rowBytes (laid base x)
   unfolding laid rowOf
   row-span e = rw (← v, e, w) (row-same _ _ _ _ _ _ _ _ _ _ (low base (x .start)) (low base (x .end)) (low base (x .p)) (low base (x .q)))
 
   pub row-plain : r ≡ false
-      → rowBytes (unlined (x .kind) (base + x .start % 4294967296) (base + x .end % 4294967296) (x .p) (x .q) b) ≡ rowBytes (laid base x)
+      → rowBytes (unlined (x .kind) (base + x .start % fieldLimit) (base + x .end % fieldLimit) (x .p) (x .q) b) ≡ rowBytes (laid base x)
   unfolding laid rowOf
   row-plain e = rw (← v, e, w) (row-same _ _ _ _ _ _ _ _ _ _ (low base (x .start)) (low base (x .end)) refl refl)
 

@@ -1,4 +1,5 @@
 // Little-endian fields.
+use crate::table::FIELD;
 ghost use mathlib.Core.Path.{_≡_};
 ghost use Prim.Native.Nat.{_+_, _%_, _≤_};
 ghost use lib.ListN.{length, take, drop};
@@ -58,5 +59,5 @@ pub fn get_eight(t: &[u8], at: usize) -> usize
     requires { ⌜ at + 8 ≤ length (now t) ⌝ }
     ensures { λ r. ⌜ r ≡ un (take 8 (drop at (now (t .entry)))) ⌝ }
 {
-    get_four(t, at) + 4294967296 * get_four(t, at + 4)
+    get_four(t, at) + FIELD * get_four(t, at + 4)
 }

@@ -36,6 +36,9 @@ pub const VALUE: usize = 24;
 
 pub const FIELDS: usize = 32;
 
+// The numbers that a field of four bytes holds are below it.
+pub const FIELD: usize = 4_294_967_296;
+
 // A row's bytes.
 pub const WIDTH: usize = FIELDS;
 
@@ -66,7 +69,7 @@ pub fn put_fields(t: &mut [u8], r: Row)
     field::put_four(t, Q, r.q);
     let bits = r.bits;
     field::put_four(t, VALUE, bits);
-    field::put_four(t, VALUE + 4, bits / 4294967296);
+    field::put_four(t, VALUE + 4, bits / FIELD);
 }
 
 // One row at the front of the table, where a whole row fits.

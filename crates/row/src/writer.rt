@@ -1,5 +1,6 @@
 // The row writer: rows after those already there, and the first refused value.
 use crate::table;
+use crate::table::FIELD;
 use crate::table::Row;
 use amount::detail::Detail;
 use amount::kind;
@@ -61,8 +62,8 @@ fn row_of(x: Detail, base: usize) -> Row
     ensures { λ r. ⌜ rowBytes r ≡ rowBytes (laid base x) ⌝ }
 {
     let kind = x.kind;
-    let start = base + x.start % 4294967296;
-    let end = base + x.end % 4294967296;
+    let start = base + x.start % FIELD;
+    let end = base + x.end % FIELD;
     let v = x.value;
     let bits = value_bits(v);
     if is_spanned(kind) {
@@ -71,8 +72,8 @@ fn row_of(x: Detail, base: usize) -> Row
             start,
             end,
             line: 0,
-            p: base + x.p % 4294967296,
-            q: base + x.q % 4294967296,
+            p: base + x.p % FIELD,
+            q: base + x.q % FIELD,
             bits,
         };
     }

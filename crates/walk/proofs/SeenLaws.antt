@@ -8,6 +8,7 @@ use borrow.Author.Tests.{lt-ltb, le-ltb, eq-eqb, ne-eqb, eqb-true}
 use lib.Dec.{eqb}
 use lib.ListN.{length, take, drop, length-drop}
 use lib.Seq.{drop-at}
+use Rattle.decimal.specs.Exact.{wordLimit}
 use Rattle.text.specs.Permitted.{sizeLimit}
 use Rattle.amount.specs.declared.detail.Detail.{Detail}
 use Rattle.row.specs.declared.table.Row.{Row}
@@ -16,6 +17,7 @@ use Rattle.row.specs.Details.{spanned, laid}
 use Rattle.row.proofs.PourLaws.{pour-fits, pourAt-zero, length-rowBytes}
 use Rattle.row.proofs.ReadBack.{wrapped, row-in, four-back, eight-back, bits-low}
 use Rattle.row.specs.steps.Holding.{Held}
+use Rattle.row.specs.Field.{fieldLimit}
 use Rattle.ledger.proofs.ScanLaws.{rest-of}
 use Rattle.posting.proofs.StepRows.{Amounted, Post, Front}
 use Rattle.walk.specs.Postings.{stated, unstated, posting}
@@ -61,35 +63,35 @@ unfolding posting
 posting-bare r [] h = refl
 posting-bare r (x ∷ ys) h = rw (ne-eqb (x .kind) 26 h)
 
-either-low : (b : Bool) (from p n : ℕ) → from + n ≤ sizeLimit → p ≤ n → cond b (from + p) p < 4294967296
+either-low : (b : Bool) (from p n : ℕ) → from + n ≤ sizeLimit → p ≤ n → cond b (from + p) p < fieldLimit
 either-low true from p n h l = omega arith
 either-low false from p n h l = omega arith
 
 -- ---- the posting of rows as they are read back from their bytes
 
-stated-back : (x y : Row) → x .start < 4294967296 → x .end < 4294967296 → y .p < 4294967296 → y .q < 4294967296 → y .bits < 18446744073709551616
+stated-back : (x y : Row) → x .start < fieldLimit → x .end < fieldLimit → y .p < fieldLimit → y .q < fieldLimit → y .bits < wordLimit
     → stated (wrapped x) (wrapped y) ≡ stated x y
 unfolding stated wrapped
 stated-back x y a b c d e = rw (four-back (x .start) a, four-back (x .end) b, four-back (y .p) c, four-back (y .q) d, eight-back (y .bits) e)
 
-unstated-back : (x : Row) → x .start < 4294967296 → x .end < 4294967296 → unstated (wrapped x) ≡ unstated x
+unstated-back : (x : Row) → x .start < fieldLimit → x .end < fieldLimit → unstated (wrapped x) ≡ unstated x
 unfolding unstated wrapped
 unstated-back x a b = rw (four-back (x .start) a, four-back (x .end) b)
 
-stated-held : (x y : Row) → x .start < 4294967296 → x .end < 4294967296 → y .p < 4294967296 → y .q < 4294967296 → y .bits < 18446744073709551616 → Held (stated x y)
+stated-held : (x y : Row) → x .start < fieldLimit → x .end < fieldLimit → y .p < fieldLimit → y .q < fieldLimit → y .bits < wordLimit → Held (stated x y)
 unfolding stated
 stated-held x y a b c d e = record { kind = omega arith; start = a; end = b; line = omega arith; p = c; q = d; bits = e }
 
-unstated-held : (x : Row) → x .start < 4294967296 → x .end < 4294967296 → Held (unstated x)
+unstated-held : (x : Row) → x .start < fieldLimit → x .end < fieldLimit → Held (unstated x)
 unfolding unstated
 unstated-held x a b = record { kind = omega arith; start = a; end = b; line = omega arith; p = omega arith; q = omega arith; bits = omega arith }
 
-kind-back : (x : Row) → x .kind < 4294967296 → wrapped x .kind ≡ x .kind
+kind-back : (x : Row) → x .kind < fieldLimit → wrapped x .kind ≡ x .kind
 unfolding wrapped
 kind-back x h = four-back (x .kind) h
 
-posting-back : (x y : Row) → x .start < 4294967296 → x .end < 4294967296 → y .kind < 4294967296
-    → (y .kind ≡ 26 → (y .p < 4294967296) × (y .q < 4294967296) × (y .bits < 18446744073709551616)) → (rs : List Row)
+posting-back : (x y : Row) → x .start < fieldLimit → x .end < fieldLimit → y .kind < fieldLimit
+    → (y .kind ≡ 26 → (y .p < fieldLimit) × (y .q < fieldLimit) × (y .bits < wordLimit)) → (rs : List Row)
     → (posting (wrapped x) (wrapped y ∷ []) ≡ posting x (y ∷ rs)) × Held (posting x (y ∷ rs))
 unfolding posting
 posting-back x y i j k low rs =
@@ -108,11 +110,11 @@ module _ (from n : ℕ) (small : from + n ≤ sizeLimit) (x : Detail) where
   X = laid from x
 
   module _ (us : List Detail) (P : Post n x us) where
-    x-start : X .start < 4294967296
+    x-start : X .start < fieldLimit
     unfolding laid rowOf
     x-start = omega (arith, P .start)
 
-    x-end : X .end < 4294967296
+    x-end : X .end < fieldLimit
     unfolding laid rowOf
     x-end = omega (arith, P .end)
 
@@ -135,22 +137,22 @@ module _ (from n : ℕ) (small : from + n ≤ sizeLimit) (x : Detail) where
     unfolding laid rowOf
     kind-is = refl
 
-    kind-low : y .kind < 4294967296
+    kind-low : y .kind < fieldLimit
     kind-low = omega (arith, P .others .0 .1)
 
     module _ (k : y .kind ≡ 26) where
       abbrev A : Amounted n y
       A = P .amount k
 
-      y-p : Y .p < 4294967296
+      y-p : Y .p < fieldLimit
       unfolding laid rowOf
       y-p = either-low (spanned (y .kind)) from (y .p) n small (A .p-in)
 
-      y-q : Y .q < 4294967296
+      y-q : Y .q < fieldLimit
       unfolding laid rowOf
       y-q = either-low (spanned (y .kind)) from (y .q) n small (A .q-in)
 
-      y-bits : Y .bits < 18446744073709551616
+      y-bits : Y .bits < wordLimit
       unfolding laid rowOf
       y-bits = bits-low (y .value) (A .small)
 
@@ -174,7 +176,7 @@ module _ (from n : ℕ) (small : from + n ≤ sizeLimit) (x : Detail) where
       followed : (more : List Row) → (postedIn u (suc (suc (length us))) ≡ posting X (map (laid from) (y ∷ us) ++ more)) × Held (posting X (map (laid from) (y ∷ us) ++ more))
       unfolding postedIn
       followed more =
-          let low : (Y .kind ≡ 26) → (Y .p < 4294967296) × (Y .q < 4294967296) × (Y .bits < 18446744073709551616) =
+          let low : (Y .kind ≡ 26) → (Y .p < fieldLimit) × (Y .q < fieldLimit) × (Y .bits < wordLimit) =
           λ k. (y-p (sym kind-is ∙ k), y-q (sym kind-is ∙ k), y-bits (sym kind-is ∙ k)) in
           let z = posting-back X Y (x-start (y ∷ us) P) (x-end (y ∷ us) P) (omega (arith, kind-is, kind-low)) low (map (laid from) us ++ more) in
           (rw (lt-ltb 1 (suc (suc (length us))) (omega arith), first, second) (z .0), z .1)

@@ -4,8 +4,9 @@ use mathlib.Core.Bool.{cond}
 use mathlib.Core.List.{List}
 use lib.Dec.{eqb}
 use lib.ListN.{length}
+use Rattle.decimal.specs.Exact.{largest}
 use Rattle.bus.specs.declared.writer.Measured.{Measured}
-use Rattle.bus.specs.Writing.{rowOf, fault, rowFields, faults, packet, largest}
+use Rattle.bus.specs.Writing.{rowOf, fault, rowFields, faults, packet}
 
 -- a fault's number, or a length
 unfoldable pub measuredBy : ℕ → ℕ → Measured

@@ -8,8 +8,9 @@ use lib.ListN.{length, take, drop}
 use Rattle.text.specs.Permitted.{sizeLimit}
 use Rattle.row.specs.declared.table.Row.{Row}
 use Rattle.row.specs.Row.{width, rowBytes, rowIn, feeds, room}
+use Rattle.row.specs.Field.{fieldLimit}
 use Rattle.recovery.specs.Recovering.{recoverFrom}
-use Rattle.edit.specs.Edits.{isBlock, isNew, fieldLimit, distance, shift, grows}
+use Rattle.edit.specs.Edits.{isBlock, isNew, distance, shift, grows}
 use Rattle.edit.specs.declared.moves.By.{By}
 use Rattle.edit.specs.declared.pick.Pick.{Pick}
 use Rattle.edit.specs.declared.reread.Plan.{Plan}

@@ -5,12 +5,13 @@ use mathlib.Core.Bool.{cond}
 use mathlib.Core.List.{List, _++_}
 use lib.Dec.{leb}
 use lib.ListN.{length, drop}
+use Rattle.decimal.specs.Exact.{largest}
 use Rattle.row.specs.declared.table.Row.{Row}
 use Rattle.row.specs.Row.{width, rowsIn}
 use Rattle.layout.specs.Meaning.{itemOf, meaning}
 use Rattle.layout.specs.Written.{printed, noItem}
 use Rattle.rewrite.specs.declared.write.Answer.{Answer}
-use Rattle.rewrite.specs.steps.Putting.{Put, most}
+use Rattle.rewrite.specs.steps.Putting.{Put}
 use Rattle.rewrite.specs.steps.Pieces.{AllFlagged, front}
 
 -- `left` rows from place i on are left, of which x is the first: whatever puts them has put all of them
@@ -23,5 +24,5 @@ pub record Going (s t : List ℕ) (n : ℕ) (o out : List ℕ) (left i at k : �
 
 -- w is written to the front of o where there is room for all of it
 pub record Pours (w o : List ℕ) (r : Answer) (u : List ℕ) : Type 0 where
-  pub answer : r ≡ cond (leb (length w) (length o)) (Answer.Bytes (length w)) (Answer.Refusal 9 0 (min (length w) most))
+  pub answer : r ≡ cond (leb (length w) (length o)) (Answer.Bytes (length w)) (Answer.Refusal 9 0 (min (length w) largest))
   pub left : u ≡ cond (leb (length w) (length o)) (w ++ drop (length w) o) o

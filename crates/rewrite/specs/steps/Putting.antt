@@ -7,15 +7,13 @@ use mathlib.Core.List.{List, [], _∷_, _++_}
 use lib.Dec.{eqb}
 use lib.ListN.{length, take}
 use lib.Seq.{sets}
+use Rattle.decimal.specs.Exact.{largest}
 use Rattle.layout.specs.Written.{zeros, trimmed, dateText}
-
-abbrev pub most : ℕ
-most = 18446744073709551615
 
 -- u is t with xs put from at on, and r the place behind them
 pub record Put (t : List ℕ) (at : ℕ) (xs u : List ℕ) (r : ℕ) : Type 0 where
-  pub bytes : at + length xs ≤ length t → length t ≤ most → u ≡ sets t at xs
-  pub next : at ≤ most → r ≡ min (at + length xs) most
+  pub bytes : at + length xs ≤ length t → length t ≤ largest → u ≡ sets t at xs
+  pub next : at ≤ largest → r ≡ min (at + length xs) largest
   pub same : length u ≡ length t
 
 -- so many digits are left without trailing zeros

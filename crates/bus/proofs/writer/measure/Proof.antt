@@ -1,9 +1,9 @@
 use Prim.Native.Nat.{_+_, _*_, _≤_}
 use mathlib.Core.Path.{_≡_}
 use lib.ListN.{length, drop}
+use Rattle.decimal.specs.Exact.{largest}
 use Rattle.bus.specs.steps.Measuring.{measuredFrom}
 use Rattle.row.specs.Row.{width}
-use Rattle.bus.specs.Writing.{largest}
 use Rattle.bus.proofs.RowsLaws.{measure-laws}
 use borrow.Author.Needs.{needs}
 use Rattle.bus.proofs.writer.measure.Statement.{statement}
