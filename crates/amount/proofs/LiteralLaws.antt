@@ -20,7 +20,7 @@ use Rattle.text.specs.Run.{runTo}
 use Rattle.text.proofs.Steps.{getD-past, byte-within}
 use Rattle.amount.specs.Literal.{unsigned, literal}
 use Rattle.amount.specs.steps.Answers.{answerOf}
-use Rattle.amount.specs.steps.Kept.{wholeFrom, fractionFrom, factor, keptValue, ended, wholeLiteral, pointLiteral}
+use Rattle.amount.specs.steps.Kept.{wholeFrom, fractionFrom, factor, keptValue, ended, wholeLiteral, pointLiteral, wholeLimit, keptLimit}
 use Rattle.amount.specs.declared.expression.Answer.{Answer}
 use Rattle.amount.specs.declared.literal.Whole.{Whole}
 use Rattle.amount.specs.declared.literal.Fraction.{Fraction}
@@ -34,11 +34,11 @@ module _ (r : Bool) (b : ℕ) (e : r ≡ isDigit b) (t : r ≡ true) where
   pub digit-low : 48 ≤ b
   digit-low = digit-range b (sym e ∙ t) .0
 
-  pub small-more : (n x u : ℕ) → n < 1000000000 → x ≡ b - 48 → u ≡ n * 10 + x → u < 10000000000
+  pub small-more : (n x u : ℕ) → n < 1000000000 → x ≡ b - 48 → u ≡ n * 10 + x → u < wholeLimit
   small-more n x u l f g = let d = digit-range b (sym e ∙ t) in omega arith
 
   pub small-fits : (n x : ℕ) → n < 1000000000 → x ≡ b - 48 → Fits w64 (n * 10 + x)
-  small-fits n x l f = let d = digit-range b (sym e ∙ t) in fits-under w64 (n * 10 + x) 10000000000 (omega arith) tt
+  small-fits n x l f = let d = digit-range b (sym e ∙ t) in fits-under w64 (n * 10 + x) wholeLimit (omega arith) tt
 
 -- ---- a whole part: the invariant is that a is what the bytes from i on make of what was kept before
 
@@ -63,24 +63,24 @@ pub ruleset whole-laws = (digit-low, small-more, small-fits, whole-grown, whole-
 -- ---- a fraction
 
 -- n with k places leaves room for six
-module _ (n k : ℕ) (h : (n + 1) * factor k ≤ 10000000000000000) where
-  room-size : n < 10000000000000000
+module _ (n k : ℕ) (h : (n + 1) * factor k ≤ keptLimit) where
+  room-size : n < keptLimit
   room-size = omega (arith, le-mul-of-pos-right (n + 1) (factor-pos k))
 
   pub room-times : Fits w64 (n * 10)
   room-times = let l = room-size in fits-under w64 (n * 10) 1000000000000000000 (omega arith) tt
 
-  pub room-same : (u j : ℕ) → u ≡ n → j ≡ k → (u + 1) * factor j ≤ 10000000000000000
+  pub room-same : (u j : ℕ) → u ≡ n → j ≡ k → (u + 1) * factor j ≤ keptLimit
   room-same u j g i = rw (g, i) h
 
-  pub room-left : n * factor k ≤ 10000000000000000
+  pub room-left : n * factor k ≤ keptLimit
   room-left = omega (arith, add-mul n 1 (factor k))
 
   module _ (r : Bool) (b : ℕ) (e : r ≡ isDigit b) (t : r ≡ true) (x : ℕ) (f : x ≡ b - 48) where
     pub room-fits : Fits w64 (n * 10 + x)
     room-fits = let d = digit-range b (sym e ∙ t) in let l = room-size in fits-under w64 (n * 10 + x) 1000000000000000000 (omega arith) tt
 
-    pub room-more : (u j : ℕ) → k < 6 → u ≡ n * 10 + x → j ≡ k + 1 → (u + 1) * factor j ≤ 10000000000000000
+    pub room-more : (u j : ℕ) → k < 6 → u ≡ n * 10 + x → j ≡ k + 1 → (u + 1) * factor j ≤ keptLimit
     room-more u j l g i =
         let d = digit-range b (sym e ∙ t) in
         let m = mul-le-mul-right {m = u + 1} {n = (n + 1) * 10} (factor (k + 1)) (omega arith) in
@@ -127,8 +127,8 @@ module _ (m : Bool) (w n k : ℕ) (tail : Bool) where
   value-large l = rw (le-ltb w 1000000000 l)
 
   module _ (f : ℕ) (e : f ≡ factor k) where
-    pub value-fits : n * factor k ≤ 10000000000000000 → Fits w64 (n * f)
-    value-fits h = rw e (fits-under w64 (n * factor k) 10000000000000001 (omega arith) tt)
+    pub value-fits : n * factor k ≤ keptLimit → Fits w64 (n * f)
+    value-fits h = rw e (fits-under w64 (n * factor k) (keptLimit + 1) (omega arith) tt)
 
     pub value-tail : (v : Value) → v ≡ judgedOf m (n * f) 1 → w < 1000000000 → tail ≡ true → v ≡ keptValue m w n k tail
     unfolding keptValue
@@ -143,7 +143,7 @@ pub ruleset value-laws = (value-large, value-fits, value-tail, value-exact)
 -- ---- the answers
 
 -- with no point, and with one, where b is the byte after the fraction f
-pub whole-room : (n : ℕ) → n < 10000000000 → n * factor 0 ≤ 10000000000000000
+pub whole-room : (n : ℕ) → n < wholeLimit → n * factor 0 ≤ keptLimit
 unfolding factor
 whole-room n h = omega arith
 

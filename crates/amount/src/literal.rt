@@ -10,7 +10,7 @@ ghost use Prim.Native.Nat.{_+_, _*_, _<_, _≤_};
 ghost use lib.Dec.{eqb};
 ghost use lib.ListN.{drop, length, getD};
 ghost use Rattle.amount.specs.Literal.{unsigned, literal};
-ghost use Rattle.amount.specs.steps.Kept.{wholeFrom, fractionFrom, factor, keptValue, wholeLiteral, pointLiteral};
+ghost use Rattle.amount.specs.steps.Kept.{wholeFrom, fractionFrom, factor, keptValue, wholeLiteral, pointLiteral, wholeLimit, keptLimit};
 ghost use Rattle.amount.specs.steps.Answers.{answerOf};
 
 // The digits before a point: where they end, their number, which stops growing once it is too large, and whether there are any.
@@ -38,7 +38,7 @@ fn wide(b: u8) -> u64
 
 fn whole_part(s: &[u8], at: usize) -> Whole
     ensures { λ r. ⌜ r ≡ wholeFrom 0 false (drop at (now (s .entry))) at ⌝ }
-    ensures { λ r. ⌜ r .size < 10000000000 ⌝ }
+    ensures { λ r. ⌜ r .size < wholeLimit ⌝ }
 {
     let mut i = at;
     let mut size: u64 = 0;
@@ -70,9 +70,9 @@ fn whole_part(s: &[u8], at: usize) -> Whole
 
 // The digits after the point, which ends at `at`; `before` is the number of those before it, and `any` says whether there are any.
 fn fraction_part(s: &[u8], at: usize, before: u64, any: bool) -> Fraction
-    requires { ⌜ before < 10000000000 ⌝ }
+    requires { ⌜ before < wholeLimit ⌝ }
     ensures { λ r. ⌜ r ≡ fractionFrom before 0 any false (drop at (now (s .entry))) at ⌝ }
-    ensures { λ r. ⌜ r .size * factor (r .places) ≤ 10000000000000000 ⌝ }
+    ensures { λ r. ⌜ r .size * factor (r .places) ≤ keptLimit ⌝ }
 {
     let mut i = at;
     let mut size = before;
@@ -127,7 +127,7 @@ fn power(places: u64) -> u64
 
 // The value of a whole part, and of its digits with those of so many places after the point.
 fn value(minus: bool, whole: u64, size: u64, places: u64, tail: bool) -> Value
-    requires { ⌜ size * factor places ≤ 10000000000000000 ⌝ }
+    requires { ⌜ size * factor places ≤ keptLimit ⌝ }
     ensures { λ r. ⌜ r ≡ keptValue minus whole size places tail ⌝ }
 {
     if 1_000_000_000 <= whole {
@@ -143,7 +143,7 @@ fn value(minus: bool, whole: u64, size: u64, places: u64, tail: bool) -> Value
 
 // A literal with no point.
 fn without_point(minus: bool, w: Whole) -> Answer
-    requires { ⌜ w .size < 10000000000 ⌝ }
+    requires { ⌜ w .size < wholeLimit ⌝ }
     ensures { λ r. ⌜ r ≡ answerOf (wholeLiteral minus w) ⌝ }
 {
     let size = w.size;
@@ -156,7 +156,7 @@ fn without_point(minus: bool, w: Whole) -> Answer
 
 // A literal with a point after its whole part: a second point makes it a miss.
 fn with_point(minus: bool, s: &[u8], w: Whole) -> Answer
-    requires { ⌜ (w .size < 10000000000) × (w .end < length (now s)) ⌝ }
+    requires { ⌜ (w .size < wholeLimit) × (w .end < length (now s)) ⌝ }
     ensures { λ r. ⌜ r ≡ answerOf (pointLiteral minus (now (s .entry)) w) ⌝ }
 {
     let point = w.end;

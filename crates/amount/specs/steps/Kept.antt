@@ -13,6 +13,14 @@ use Rattle.text.specs.Answer.{Ans, To, Miss}
 use Rattle.amount.specs.declared.literal.Whole.{Whole}
 use Rattle.amount.specs.declared.literal.Fraction.{Fraction}
 
+-- a whole part is kept below it: nine digits, and one that makes it too large
+abbrev pub wholeLimit : ℕ
+wholeLimit = 10000000000
+
+-- with its places, in millionths, no number that is kept is above it
+abbrev pub keptLimit : ℕ
+keptLimit = 10000000000000000
+
 -- the number of the digits before the point: it stops growing once it is too large
 abbrev pub grown : ℕ → ℕ → ℕ
 grown n d = cond (ltb n 1000000000) (n * 10 + d) n

@@ -3,7 +3,7 @@ use Prim.Native.Nat.{_+_, _-_, _*_, _≤_}
 use mathlib.Core.Path.{_≡_}
 use mathlib.Core.Bool.{false}
 use mathlib.Core.Logic.{⊎-elim}
-use Rattle.amount.specs.steps.Kept.{fractionFrom, factor}
+use Rattle.amount.specs.steps.Kept.{fractionFrom, factor, keptLimit}
 use Rattle.amount.proofs.LiteralLaws.{fraction-laws}
 use borrow.Author.Needs.{needs}
 use Rattle.amount.proofs.literal.fraction_part.Statement.{statement}
@@ -11,7 +11,7 @@ use Rattle.amount.proofs.literal.fraction_part.Tie as tie
 
 abbrev Inv-loop : tie.InvT-loop
 Inv-loop s at before any i₀ size₀ places₀ digits₀ tail₀ i size places digits tail =
-    (fractionFrom before 0 any false (drop at s) at ≡ fractionFrom size places digits tail (drop i s) i) × ((size + 1) * factor places ≤ 10000000000000000)
+    (fractionFrom before 0 any false (drop at s) at ≡ fractionFrom size places digits tail (drop i s) i) × ((size + 1) * factor places ≤ keptLimit)
 
 abbrev μ-loop : tie.MeasureT-loop
 μ-loop s at before any i₀ size₀ places₀ digits₀ tail₀ i size places digits tail = length s - i

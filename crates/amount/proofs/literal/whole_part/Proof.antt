@@ -3,14 +3,14 @@ use Prim.Native.Nat.{_-_, _<_}
 use mathlib.Core.Path.{_≡_}
 use mathlib.Core.Bool.{false}
 use mathlib.Core.Logic.{⊎-elim}
-use Rattle.amount.specs.steps.Kept.{wholeFrom}
+use Rattle.amount.specs.steps.Kept.{wholeFrom, wholeLimit}
 use Rattle.amount.proofs.LiteralLaws.{whole-laws}
 use borrow.Author.Needs.{needs}
 use Rattle.amount.proofs.literal.whole_part.Statement.{statement}
 use Rattle.amount.proofs.literal.whole_part.Tie as tie
 
 abbrev Inv-loop : tie.InvT-loop
-Inv-loop s at i₀ size₀ digits₀ i size digits = (wholeFrom 0 false (drop at s) at ≡ wholeFrom size digits (drop i s) i) × (size < 10000000000)
+Inv-loop s at i₀ size₀ digits₀ i size digits = (wholeFrom 0 false (drop at s) at ≡ wholeFrom size digits (drop i s) i) × (size < wholeLimit)
 
 abbrev μ-loop : tie.MeasureT-loop
 μ-loop s at i₀ size₀ digits₀ i size digits = length s - i
