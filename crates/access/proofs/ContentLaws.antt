@@ -9,13 +9,14 @@ use mathlib.Core.List.{List, [], _∷_, _++_}
 use borrow.Author.Tests.{eq-eqb, ne-eqb, eqb-true, eqb-false, not-false, le-leb, lt-leb}
 use lib.Dec.{eqb}
 use lib.ListN.{length, getD, set, drop, drop-of-length-le}
-use lib.Seq.{sets, sets-eq, drop-drop}
+use lib.Seq.{sets, drop-drop}
 use mir.Syntax.{w64}
 use mir.Val.{Fits}
 use Rattle.text.specs.Bytes.{isOrdinary, isEscaped}
 use Rattle.text.specs.Strings.{strFrom, escFrom, stringAt}
 use Rattle.text.proofs.Steps.{drop-step, head-drop, such-within}
 use Rattle.text.proofs.TestLaws.{and-right}
+use Rattle.row.proofs.FieldLaws.{sets-front}
 use Rattle.access.specs.Contents.{endsAt, valid, unescaped, escapedByte, contentAnswer, contentLeft}
 use Rattle.access.specs.steps.Measuring.{taken, slash, measuredOf}
 use Rattle.access.specs.declared.written.Written.{Written}
@@ -223,9 +224,6 @@ pub ruleset copy-laws = (copy-end, copy-stop, copy-on, copy-room, copy-left, sla
 
 -- ---- the call
 
-pub front : (w t : List ℕ) → length w ≤ length t → sets t 0 w ≡ w ++ drop (length w) t
-front w t h = rw (zero-add (length w)) at (sets-eq w t 0 (rw (zero-add (length w)) h))
-
 module _ (c t : List ℕ) (r : Measured) (p : r ≡ measuredOf c) where
   was-bad : r ≡ Measured.Bad → valid c ≡ false
   unfolding measuredOf
@@ -271,6 +269,6 @@ module _ (c t : List ℕ) (r : Measured) (p : r ≡ measuredOf c) where
     unfolding contentLeft
     copied-left u l f =
         let w = was-bytes n q in
-        f ∙ front (unescaped c) t (room-there l) ∙ rw (w .0, le-leb (length (unescaped c)) (length t) (room-there l))
+        f ∙ sets-front (unescaped c) t (room-there l) ∙ rw (w .0, le-leb (length (unescaped c)) (length t) (room-there l))
 
 pub ruleset content-laws = (bad-answer, bad-left, short-answer, short-left, room-there, copied-answer, copied-left)

@@ -7,15 +7,9 @@ use mathlib.Core.Path.{_≡_, refl}
 use mathlib.Core.Bool.{true, false}
 use mathlib.Core.List.{List, [], _∷_, _++_, map}
 use lib.ListN.{length, replicate}
-use Rattle.decimal.specs.Exact.{decimalOf, exact, exactly, valueIn, negated, sum, difference, product, quotient}
 use Rattle.decimal.specs.declared.Form.the-variants.{Exact}
-use Rattle.text.specs.Bytes.{isBlank, isSpace, isDigit, isEscaped, bytes}
-use Rattle.text.specs.Run.{runFrom, runTo}
-use Rattle.text.specs.Answer.{_then_, _else_}
-use Rattle.text.specs.Permitted.{permitted, clean}
-use Rattle.text.specs.Strings.{strFrom, escFrom, stringAt}
-use Rattle.amount.specs.Literal.{inLiteral, count, number, places, plain, literalAs, unsigned, literal}
-use Rattle.amount.specs.Expression.{negatedValue, operated, combined, isPlus, isTimes, goesOn, chain, atom, products, sums, negation, inGroup, closed, group, within, expressionIn}
+use Rattle.text.specs.Bytes.{bytes}
+use Rattle.amount.specs.Opened.{opened}
 use Rattle.access.specs.Single.{valueAnswer, readAnswer, evaluated}
 use Rattle.access.specs.Contents.{endsAt, valid, unescaped, escapedByte, contentAnswer, contentLeft}
 use Rattle.access.specs.declared.single.Evaluated.{Evaluated}
@@ -69,7 +63,7 @@ singles =
 
 -- every single expression gives the answer that it says, in the exact form
 pub singles-answer : map (λ x. evaluated Exact (x .0)) singles ≡ map (λ x. x .1) singles
-unfolding singles bytes permitted clean valueAnswer readAnswer evaluated isBlank isSpace isDigit runFrom runTo _then_ _else_ inLiteral count number places plain literalAs unsigned literal negatedValue operated combined isPlus isTimes goesOn chain atom products sums negation inGroup closed group within expressionIn decimalOf exact exactly valueIn negated sum difference product quotient
+unfolding opened singles valueAnswer readAnswer evaluated
 singles-answer = refl
 
 -- ---- string content: its answer with a buffer of four points, and the buffer afterwards
@@ -109,5 +103,5 @@ contents =
 
 -- all content gives the answer and the bytes that it says
 pub contents-filled : map (λ x. (contentAnswer (x .0) (length buffer), contentLeft (x .0) buffer)) contents ≡ map (λ x. x .1) contents
-unfolding contents bytes isEscaped strFrom escFrom stringAt endsAt valid unescaped escapedByte contentAnswer contentLeft
+unfolding opened contents endsAt valid unescaped escapedByte contentAnswer contentLeft
 contents-filled = refl

@@ -1,14 +1,16 @@
--- Rule 10: where amounts end and refuse, and that two texts which share a line have the same.
+-- Rule 10: where amounts and strings end and refuse, and that two texts which share a line have the same.
 use Prim.Native.Nat.{ℕ, _+_, _≤_}
-use mathlib.Core.List.{List}
+use mathlib.Core.List.{List, [], _∷_}
 use native.Mathlib.Omega.{arith}
 use lib.ListN.{length}
 use Rattle.text.specs.Answer.{must}
-use Rattle.text.specs.Leaves.{gap, currency}
+use Rattle.text.specs.Leaves.{gap, currency, string}
 use Rattle.text.proofs.Joins.{Reach, to-reach, reach-from, must-reach, then-reach, and-reach}
 use Rattle.text.proofs.Alike.{Alike, both-to, then-alike, and-alike, must-alike}
-use Rattle.text.proofs.TokenEnds.{gap-reach, currency-reach}
+use Rattle.text.proofs.TokenEnds.{gap-reach, currency-reach, string-reach}
 use Rattle.text.proofs.SharedLines.{Shared, told, gap-alike, currency-alike}
+use Rattle.amount.specs.declared.detail.Detail.{Detail}
+use Rattle.amount.specs.Details.{quoted}
 use Rattle.amount.specs.Expression.{expression}
 use Rattle.amount.specs.Amounts.{amount, hardGap, hardCurrency, hardAmount, priceOf}
 use Rattle.amount.proofs.ExpressionEnds.{expression-reach}
@@ -26,6 +28,10 @@ module _ (s : List ℕ) where
       then-reach N (at + 1) (at + 1) (expression s at) _ (expression-reach s at) (λ e v p q.
       and-reach N (e + 1) (at + 1) (gap s e) _ (gap-reach s e q) (λ c p₂ q₂.
       and-reach N (c + 1) (at + 1) (currency s c) _ (currency-reach s c) (λ d p₃ q₃. to-reach N (at + 1) d _ (omega arith) q₃)))
+
+  pub quoted-reach : (row : ℕ → ℕ → Detail) (at : ℕ) → Reach N (at + 1) (quoted row s at)
+  unfolding quoted
+  quoted-reach row at = and-reach N (at + 1) (at + 1) (string s at) _ (string-reach s at) (λ e p q. to-reach N (at + 1) e _ p q)
 
   pub hard-gap-reach : (at : ℕ) → at ≤ N → Reach N (at + 1) (hardGap s at)
   unfolding hardGap

@@ -16,7 +16,7 @@ use Rattle.amount.specs.steps.Kept.{grown, factor, keptValue}
 
 -- ---- powers of ten, and the factor that makes millionths
 
-ten-pos : (k : ℕ) → 0 < 10 ^ k
+pub ten-pos : (k : ℕ) → 0 < 10 ^ k
 ten-pos k = pow-le-pow-right {n = 10} (omega arith) {i = 0} {j = k} (omega arith)
 
 ten-more : (k : ℕ) → 10 ^ (k + 1) ≡ 10 ^ k * 10

@@ -8,14 +8,14 @@ use lib.Dec.{eqb}
 use lib.ListN.{length, getD}
 use Rattle.decimal.specs.declared.Form.the-variants.{Rounding}
 use Rattle.decimal.specs.declared.Value.{Value}
-use Rattle.text.specs.Bytes.{isBlank, isSpace, isDigit}
+use Rattle.text.specs.Bytes.{isBlank, isSpace, isDigit, between}
 use Rattle.text.specs.Run.{runTo, blanks}
 use Rattle.text.specs.Answer.{Ans, To}
 use Rattle.text.proofs.Steps.{drop-step, run-from}
 use Rattle.text.proofs.Joins.{Reach}
 use Rattle.text.proofs.Alike.{Alike, both-to, both-hard, then-alike, else-alike, cond-alike, if-alike, alike-from}
 use Rattle.text.proofs.SharedLines.{Shared, byte-same, told, step, run-both, run-alike, blanks-alike}
-use Rattle.amount.specs.Literal.{inLiteral, plain, literalAs, between, unsigned, literal}
+use Rattle.amount.specs.Literal.{inLiteral, plain, literalAs, unsigned, literal}
 use Rattle.amount.specs.Expression.{Arithmetic, combined, expressionIn, isPlus, isTimes, goesOn, chain, atom, products, sums, negation, inGroup, closed, group, groups, within, expression}
 use Rattle.amount.proofs.ExpressionEnds.{atom-reach, products-reach, group-reach}
 

@@ -11,12 +11,12 @@ use lib.Dec.{eqb}
 use lib.ListN.{getD, length, take, drop}
 use Rattle.decimal.specs.declared.Form.the-variants.{Rounding}
 use Rattle.decimal.specs.declared.Value.{Value}
-use Rattle.text.specs.Bytes.{isBlank, isSpace}
+use Rattle.text.specs.Bytes.{isBlank, isSpace, between}
 use Rattle.text.specs.Run.{runTo, blanks}
 use Rattle.text.specs.Answer.{Ans, To, Miss, Hard, _then_, _else_}
 use Rattle.text.proofs.Steps.{byte-within, getD-past, run-ends, run-from, run-within, run-first}
 use Rattle.text.proofs.Joins.{Reach, to-reach, miss-reach, hard-reach, reach-from, cond-reach, then-reach, else-reach}
-use Rattle.amount.specs.Literal.{inLiteral, count, plain, literalAs, between, unsigned, literal}
+use Rattle.amount.specs.Literal.{inLiteral, count, plain, literalAs, unsigned, literal}
 use Rattle.amount.specs.Expression.{Arithmetic, combined, expressionIn, negatedValue, isPlus, isTimes, goesOn, chain, atom, products, sums, negation, inGroup, closed, group, groups, within, expression}
 
 -- ---- runs from any place

@@ -15,3 +15,4 @@ pub mod AmountForms
 pub mod AmountLaws
 pub mod RowCounts
 pub mod AmountFew
+pub mod OneRows

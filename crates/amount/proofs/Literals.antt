@@ -11,11 +11,11 @@ use lib.ListN.{length, take, drop, getD}
 use borrow.Author.Tests.{le-leb, lt-leb, ne-eqb}
 use Rattle.decimal.specs.Exact.{exact}
 use Rattle.decimal.specs.declared.Value.{Value}
-use Rattle.text.specs.Bytes.{isDigit, isSpace}
+use Rattle.text.specs.Bytes.{isDigit, isSpace, between}
 use Rattle.text.specs.Run.{runTo}
 use Rattle.text.specs.Answer.{Ans, To, Miss}
 use Rattle.text.proofs.Steps.{drop-step, getD-past, back, run-on, run-stops, run-ends, run-from}
-use Rattle.amount.specs.Literal.{inLiteral, isPoint, count, number, places, plain, literalAs, between, unsigned}
+use Rattle.amount.specs.Literal.{inLiteral, isPoint, count, number, places, plain, literalAs, unsigned}
 use Rattle.amount.specs.declared.literal.Whole.{Whole}
 use Rattle.amount.specs.steps.Kept.{wholeFrom, fractionFrom, ended, wholeLiteral, pointLiteral}
 use Rattle.amount.proofs.Digits.{Keeps, none-kept, whole-more, place-more, past-more, finished}

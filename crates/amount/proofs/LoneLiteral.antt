@@ -11,12 +11,12 @@ use lib.ListN.{getD, length}
 use Rattle.decimal.specs.declared.Form.{Form}
 use Rattle.decimal.specs.declared.Form.the-variants.{Exact, Rounding}
 use Rattle.decimal.specs.declared.Value.{Value}
-use Rattle.text.specs.Bytes.{isBlank, isSpace, isDigit}
+use Rattle.text.specs.Bytes.{isBlank, isSpace, isDigit, between}
 use Rattle.text.specs.Run.{runTo, blanks}
 use Rattle.text.specs.Answer.{Ans, To, Miss, _then_, _else_}
 use Rattle.text.proofs.TestLaws.{absurd-bool, or-left, or-right, differ}
 use Rattle.text.proofs.Steps.{run-on, run-stops, run-same, run-first}
-use Rattle.amount.specs.Literal.{inLiteral, literalAs, between, unsigned, literal}
+use Rattle.amount.specs.Literal.{inLiteral, literalAs, unsigned, literal}
 use Rattle.amount.specs.Expression.{Arithmetic, combined, groups, expressionIn, expression, isPlus, isTimes, chain, atom, products, sums, negation, inGroup, group, within}
 use Rattle.amount.specs.steps.Answers.{answerOf, operatorOf}
 use Rattle.amount.specs.declared.expression.Answer.{Answer}

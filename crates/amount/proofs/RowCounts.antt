@@ -14,12 +14,13 @@ use Rattle.text.specs.Accounts.{accountAt}
 use Rattle.text.specs.Strings.{stringAt}
 use Rattle.text.specs.Tags.{markedAt}
 use Rattle.text.specs.Answer.{Ans, To, Miss, Hard, _then_, must, _else_, more, _and_, maybe, many}
-use Rattle.text.specs.Leaves.{token, named, gap, lineEnd, emptyLine, string, account, currency, tag, link, word, byte}
+use Rattle.text.specs.Leaves.{token, named, gap, comma, lineEnd, emptyLine, string, account, currency, tag, link, word, byte}
 use Rattle.text.specs.declared.Read.{Read}
 use Rattle.text.specs.declared.account.AccountRead.{AccountRead}
 use Rattle.text.proofs.Joins.{Reach}
+use Rattle.text.proofs.TokenEnds.{string-reach}
 use Rattle.amount.specs.declared.detail.Detail.{Detail}
-use Rattle.amount.specs.Details.{Rows, span, named as naming, valued}
+use Rattle.amount.specs.Details.{Rows, span, named as naming, valued, quoted}
 pub use Rattle.amount.specs.Kinds.{flagKind, costKind, postingKind, refusalKind}
 use Rattle.amount.proofs.ValueSizes.{Small, zero-small}
 
@@ -268,6 +269,10 @@ module _ (s : List ℕ) (at : ℕ) where
   unfolding gap
   gap-bare = token-bare _
 
+  pub comma-bare : Bare (comma s at)
+  unfolding comma
+  comma-bare = token-bare _
+
   pub line-bare : Bare (lineEnd s at)
   unfolding lineEnd
   line-bare = token-bare _
@@ -320,3 +325,7 @@ module _ {K : Kinds} (s : List ℕ) (n k at : ℕ) (f : ℕ → Rows) (u : midLi
   pub link-and : Reach n (at + 1) (link {A = Detail} s at) → FitsFrom K s k (link s at and f)
   unfolding link markedAt
   link-and r = marked-and s n (at + 1) k at 94 _ f (λ z. omega arith) r u
+
+pub quoted-fits : {K : Kinds} (s : List ℕ) (row : ℕ → ℕ → Detail) (k at : ℕ) → (midLine s (at + 1) ≡ 1 → (e : ℕ) → at + 1 ≤ e → e ≤ length s → Rising K s k e (row (at + 1) (e - 1) ∷ [])) → k ≤ at → FitsFrom K s k (quoted row s at)
+unfolding quoted
+quoted-fits s row k at f h = string-and s (length s) k at _ (λ m e p q. to-fits k e _ (f m e p q, omega arith)) (string-reach s at)

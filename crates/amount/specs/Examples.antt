@@ -6,15 +6,13 @@ use mathlib.Core.Path.{_≡_, refl}
 use mathlib.Core.Bool.{true, false}
 use mathlib.Core.List.{List, [], _∷_, _++_, map}
 use lib.ListN.{replicate}
-use Rattle.decimal.specs.Exact.{decimalOf, exact, exactly, valueIn, negated, sum, difference, product, quotient}
 use Rattle.decimal.specs.declared.Form.the-variants.{Exact}
 use Rattle.decimal.specs.declared.Value.{Value}
 use Rattle.decimal.specs.declared.Value.the-variants.{Known, Refused}
-use Rattle.text.specs.Bytes.{isBlank, isSpace, isDigit, bytes}
-use Rattle.text.specs.Run.{runFrom, runTo}
-use Rattle.text.specs.Answer.{Ans, To, Miss, Hard, _then_, _else_}
-use Rattle.amount.specs.Literal.{inLiteral, count, number, places, plain, literalAs, unsigned, literal}
-use Rattle.amount.specs.Expression.{negatedValue, operated, combined, isPlus, isTimes, goesOn, chain, atom, products, sums, negation, inGroup, closed, group, within, expressionIn}
+use Rattle.text.specs.Bytes.{bytes}
+use Rattle.text.specs.Answer.{Ans, To, Miss, Hard}
+use Rattle.amount.specs.Expression.{expressionIn}
+use Rattle.amount.specs.Opened.{opened}
 
 -- a text, and the reading at its start
 abbrev Example : Type 0
@@ -103,5 +101,5 @@ examples = edges ++ leading ++ literals ++ orders ++ depths
 
 -- every example reads as it says, in the exact form
 pub examples-read : map (λ x. expressionIn Exact (x .0) 0) examples ≡ map (λ x. x .1) examples
-unfolding examples bytes isBlank isSpace isDigit runFrom runTo _then_ _else_ inLiteral count number places plain literalAs unsigned literal negatedValue operated combined isPlus isTimes goesOn chain atom products sums negation inGroup closed group within expressionIn decimalOf exact exactly valueIn negated sum difference product quotient
+unfolding opened examples
 examples-read = refl

@@ -4,5 +4,6 @@ pub mod Expression
 pub mod Agreement
 pub mod Details
 pub mod Amounts
+pub mod Opened
 pub mod Examples
 pub mod steps

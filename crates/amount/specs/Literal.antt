@@ -5,10 +5,10 @@ use Prim.Native.Char.{code}
 use mathlib.Core.Bool.{Bool, true, false, cond, _&&_, _||_}
 use mathlib.Core.List.{List, [], _∷_}
 use lib.Dec.{leb, eqb}
-use lib.ListN.{getD, take, drop}
+use lib.ListN.{getD}
 use Rattle.decimal.specs.Exact.{exact}
 use Rattle.decimal.specs.declared.Value.{Value}
-use Rattle.text.specs.Bytes.{isDigit, isSpace}
+use Rattle.text.specs.Bytes.{isDigit, isSpace, between}
 use Rattle.text.specs.Run.{runTo}
 use Rattle.text.specs.Answer.{Ans, To, Miss}
 
@@ -41,10 +41,6 @@ plain s = leb 1 (count isDigit s) && leb (count isPoint s) 1
 -- the reading of the bytes s, which end at e: the digits' number over a power of ten, in millionths
 unfoldable pub literalAs : Bool → List ℕ → ℕ → Ans Value
 literalAs minus s e = cond (plain s) (To e (exact minus (number 0 s * 1000000) (10 ^ places s))) Miss
-
--- the bytes from c up to e
-abbrev pub between : List ℕ → ℕ → ℕ → List ℕ
-between s c e = take (e - c) (drop c s)
 
 -- a literal whose sign, if any, ends at b: spaces are dropped, and a tab would stay, and miss
 unfoldable pub unsigned : Bool → List ℕ → ℕ → Ans Value

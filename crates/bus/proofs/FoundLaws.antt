@@ -6,8 +6,7 @@ use mathlib.Core.Bool.{Bool, true, false, _&&_}
 use mathlib.Core.List.{List}
 use borrow.Author.Tests.{ne-eqb, lt-ltb, le-ltb, eqb-true}
 use lib.Dec.{eqb}
-use lib.ListN.{length, getD, take, drop, length-drop}
-use lib.Seq.{take-all}
+use lib.ListN.{length, getD, take, drop}
 use Rattle.text.proofs.TestLaws.{and-left}
 use Rattle.row.specs.Field.{fieldAt}
 use Rattle.bus.specs.declared.packet.Found.{Found}
@@ -16,10 +15,8 @@ use Rattle.amount.specs.Kinds.{firstDetail}
 use Rattle.bus.specs.Fields.{isEntry, rowTag, stated, whole, rowField, entryTag, detailTag, textTag, headWidth}
 use Rattle.bus.specs.Reading.{fieldFault, isRow, textFound, found}
 use Rattle.row.specs.Row.{width}
+use Rattle.text.proofs.Steps.{rest-of}
 use Rattle.bus.proofs.FieldLaws.{whole-in}
-
-pub rest-of : (s : List ℕ) (at : ℕ) → take (length s - at) (drop at s) ≡ drop at s
-rest-of s at = take-all (length s - at) (drop at s) (rw length-drop (omega arith))
 
 pub entry-kind : (kind : ℕ) → kind < firstDetail → isEntry kind ≡ true
 unfolding isEntry

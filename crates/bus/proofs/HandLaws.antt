@@ -17,7 +17,8 @@ use Rattle.bus.specs.Fields.{isEntry, stated, whole, rowField, textPlace
 use Rattle.bus.specs.Reading.{fieldFault, isRow, textFound, found, handed, rowLeft, textLeft, stepAt, Hands}
 use Rattle.row.specs.Row.{width}
 use Rattle.bus.proofs.FieldLaws.{whole-in}
-use Rattle.bus.proofs.FoundLaws.{rest-of, row-in}
+use Rattle.text.proofs.Steps.{rest-of}
+use Rattle.bus.proofs.FoundLaws.{row-in}
 
 -- ---- what is found lies within the bytes
 

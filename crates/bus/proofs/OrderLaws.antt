@@ -2,22 +2,14 @@
 use Prim.Native.Nat.{ℕ, _%_, _^_}
 use mathlib.Core.Path.{_≡_, refl, ap, _∙_}
 use mathlib.Core.List.{List, reverse-reverse}
-use lib.ListN.{length, length-reverse}
 use Rattle.row.specs.Field.{le, un}
-use Rattle.row.proofs.FieldLaws.{length-le, un-le}
+use Rattle.row.proofs.FieldLaws.{un-le}
 use Rattle.bus.specs.Orders.{Order, lowestFirst, highestFirst, ordered, bytesIn, numberIn}
 
 -- putting bytes into an order and back changes nothing
 ordered-twice : (o : Order) (bs : List ℕ) → ordered o (ordered o bs) ≡ bs
 ordered-twice lowestFirst bs = refl
 ordered-twice highestFirst bs = reverse-reverse bs
-
-length-ordered : (o : Order) (bs : List ℕ) → length (ordered o bs) ≡ length bs
-length-ordered lowestFirst bs = refl
-length-ordered highestFirst bs = length-reverse bs
-
-pub length-bytes : (o : Order) (k x : ℕ) → length (bytesIn o k x) ≡ k
-length-bytes o k x = length-ordered o (le k x) ∙ length-le k x
 
 -- what reading finds of what was written: the number's low bytes
 pub number-bytes : (o : Order) (k x : ℕ) → numberIn o (bytesIn o k x) ≡ x % 256 ^ k

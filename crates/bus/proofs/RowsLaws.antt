@@ -18,7 +18,7 @@ use Rattle.bus.specs.Writing.{rowOf, fault, rowFields, faults, packet}
 use Rattle.bus.specs.steps.Measuring.{measuredBy, rowMeasured, measuredFrom}
 use Rattle.bus.specs.steps.Putting.{RowFits, RowsFit}
 use Rattle.row.specs.Row.{width}
-use Rattle.bus.proofs.FoundLaws.{rest-of}
+use Rattle.text.proofs.Steps.{rest-of}
 
 -- ---- row by row: `left` rows are left, from byte i of the table on
 

@@ -10,7 +10,7 @@ use lib.Dec.{eqb}
 use lib.ListN.{length}
 use lib.Seq.{sets}
 use Rattle.decimal.specs.Exact.{largest}
-use Rattle.access.proofs.ContentLaws.{front}
+use Rattle.row.proofs.FieldLaws.{sets-front}
 use Rattle.access.specs.declared.written.Written.{Written}
 use Rattle.bus.specs.declared.writer.Measured.{Measured}
 use Rattle.bus.specs.Refusals.{tooShort, notValid}
@@ -81,6 +81,6 @@ module _ (s t b : List ℕ) (n : ℕ) where
 
         pub bytes-left : (v : List ℕ) → v ≡ sets b 0 (packet s n t) → v ≡ writtenLeft s n t b
         unfolding writtenLeft
-        bytes-left v ev = ev ∙ front (packet s n t) b write-room ∙ rw (refused-by, is-bytes .0, le-leb (length (packet s n t)) (length b) write-room)
+        bytes-left v ev = ev ∙ sets-front (packet s n t) b write-room ∙ rw (refused-by, is-bytes .0, le-leb (length (packet s n t)) (length b) write-room)
 
 pub ruleset write-laws = (many-answer, many-left, fault-answer, fault-left, short-answer, short-left, rows-fit, bytes-answer, bytes-left)

@@ -1,5 +1,6 @@
 // A tagged field: a one-byte tag, a two-byte big-endian length, the content.
 use row::table;
+use row::work;
 use text::bytes;
 ghost use mathlib.Core.Path.{_≡_};
 ghost use mathlib.Core.List.{_++_};
@@ -45,31 +46,12 @@ pub fn is_whole(r: &[u8]) -> bool
     HEAD + stated_length(r) <= r.len()
 }
 
-// All of `from` to `to`, from place `at` on.
-pub fn copy(from: &[u8], to: &mut [u8], at: usize)
-    requires { ⌜ at + length (now from) ≤ length (now to) ⌝ }
-    ensures { λ _. ⌜ now (to .exit) ≡ sets (now (to .entry)) at (now (from .entry)) ⌝ }
-{
-    let mut i = 0;
-    while i < from.len() {
-        to[at + i] = from[i];
-        i += 1;
-    }
-}
-
 // So many bytes of `from`, from place `at` on, to the front of `to`.
 pub fn copy_part(from: &[u8], at: usize, n: usize, to: &mut [u8])
     requires { ⌜ (at + n ≤ length (now from)) × (n ≤ length (now to)) ⌝ }
     ensures { λ _. ⌜ now (to .exit) ≡ take n (drop at (now (from .entry))) ++ drop n (now (to .entry)) ⌝ }
 {
-    copy(&from[at..at + n], to, 0);
-}
-
-fn low(n: usize) -> u8
-    requires { ⌜ n ≤ 255 ⌝ }
-    ensures { λ r. ⌜ r ≡ n ⌝ }
-{
-    n as u8
+    work::copy(&from[at..at + n], to, 0);
 }
 
 // A tag and a length to `to`, from place `at` on: the length's highest byte first.
@@ -78,8 +60,8 @@ fn put_head(tag: u8, n: usize, to: &mut [u8], at: usize)
     ensures { λ _. ⌜ now (to .exit) ≡ sets (now (to .entry)) at (head tag n) ⌝ }
 {
     to[at] = tag;
-    to[at + 1] = low(n / 256);
-    to[at + 2] = low(n % 256);
+    to[at + 1] = bytes::narrow(n / 256);
+    to[at + 2] = bytes::narrow(n % 256);
 }
 
 // A field to `to`, from place `at` on: the place behind it.
@@ -89,6 +71,6 @@ pub fn put_field(tag: u8, content: &[u8], to: &mut [u8], at: usize) -> usize
     ensures bytes { λ _. ⌜ now (to .exit) ≡ sets (now (to .entry)) at (field tag (now (content .entry))) ⌝ }
 {
     put_head(tag, content.len(), to, at);
-    copy(content, to, at + HEAD);
+    work::copy(content, to, at + HEAD);
     at + HEAD + content.len()
 }

@@ -5,11 +5,11 @@ use access::tables;
 use access::written::Written;
 use amount::kind;
 use row::table;
+use row::work;
 ghost use mathlib.Core.Path.{_≡_};
-ghost use Prim.Native.Nat.{_+_, _*_, _≤_, min};
+ghost use Prim.Native.Nat.{_+_, _*_, _≤_};
 ghost use lib.ListN.{length};
 ghost use lib.Seq.{sets};
-ghost use Rattle.decimal.specs.Exact.{largest};
 ghost use Rattle.row.specs.Row.{width};
 ghost use Rattle.bus.specs.Writing.{rowFields, packet, written, writtenLeft};
 ghost use Rattle.bus.specs.steps.Measuring.{rowMeasured, measuredFrom};
@@ -64,17 +64,6 @@ fn put_row(ledger: &[u8], u: &[u8], buffer: &mut [u8], at: usize) -> usize
     field::put_field(field::TEXT, text, buffer, next)
 }
 
-// A sum, or the largest number.
-fn add(a: usize, b: usize) -> usize
-    ensures { λ r. ⌜ r ≡ min (a + b) largest ⌝ }
-{
-    if a <= usize::MAX - b {
-        a + b
-    } else {
-        usize::MAX
-    }
-}
-
 // The length of the packet of n rows, or the first fault.
 fn measure(ledger: &[u8], t: &[u8], n: usize) -> Measured
     requires { ⌜ n * width ≤ length (now t) ⌝ }
@@ -88,7 +77,7 @@ fn measure(ledger: &[u8], t: &[u8], n: usize) -> Measured
         match m {
             Measured::Fault(f) => return Measured::Fault(f),
             Measured::Bytes(k) => {
-                total = add(total, k);
+                total = work::add(total, k);
             }
         }
         i += table::WIDTH;

@@ -32,7 +32,7 @@ use Rattle.row.proofs.SureLaws.{Sure, sure-to, sure-hard, sure-must, sure-and}
 use Rattle.row.proofs.DidLaws.{did-read}
 use Rattle.row.proofs.OutLaws.{poured-none}
 use Rattle.row.proofs.TokenLaws.{then-read, must-token-read, must-token-miss}
-use Rattle.posting.proofs.OneRows.{OneRow, row, one-miss, one-hard, token-to, token-miss, byteAt, byte-token, byte-row, then-row}
+use Rattle.amount.proofs.OneRows.{OneRow, row, one-miss, one-hard, token-to, token-miss, byteAt, byte-token, byte-row, then-row}
 use Rattle.content.specs.Contents.{hardAccount, tolerance, balanceOf}
 use Rattle.content.specs.steps.Parts.{pastGap, toleranceOf, toleranceRead, balanceEnd, balanceAmount}
 use Rattle.content.proofs.RowLaws.{some-read, join-read, join-miss, join-hard}

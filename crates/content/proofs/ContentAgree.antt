@@ -14,19 +14,19 @@ use Rattle.text.specs.Answer.{To, Miss, more, _and_, maybe}
 use Rattle.text.specs.Leaves.{token, gap, lineEnd}
 use Rattle.text.specs.declared.Read.{Read}
 use Rattle.text.proofs.Steps.{byte-within}
-use Rattle.text.proofs.InLine.{starts}
 use Rattle.text.proofs.Joins.{Reach, reach-from, and-reach, and-parts}
 use Rattle.text.proofs.Alike.{Same, Upto, upto, same-eq, same-ends, and-alike, maybe-alike}
 use Rattle.text.proofs.SharedLines.{Shared, gap-alike, line-alike}
+use Rattle.text.specs.Boundaries.{isStart}
 use Rattle.text.proofs.TokenEnds.{line-reach}
 use Rattle.text.proofs.TextCut.{xs, s, cut, same-byte}
 use Rattle.amount.specs.declared.detail.Detail.{Detail}
-use Rattle.amount.specs.Details.{Rows, span}
+use Rattle.amount.specs.Details.{Rows, span, quoted}
 use Rattle.amount.specs.Amounts.{hardGap}
 use Rattle.amount.proofs.AmountLaws.{hard-gap-reach, hard-gap-alike}
 use Rattle.row.specs.Strings.{counted}
 use Rattle.row.proofs.SureLaws.{Sure, sure-must, sure-and}
-use Rattle.posting.specs.Metadata.{quoted, metadata}
+use Rattle.posting.specs.Metadata.{metadata}
 use Rattle.posting.proofs.PostingEnds.{metadata-reach}
 use Rattle.posting.proofs.Agree.{Agrees, misses, refuses, reads, crosses, torn-more, more-agree, must-agree, and-agree, and-loose, assoc-agree}
 use Rattle.posting.proofs.StringAgree.{quoted-span}
@@ -73,7 +73,7 @@ hard-string-sure : (s : List ℕ) (at : ℕ) → Sure (hardString s at)
 unfolding hardString
 hard-string-sure s at = sure-must at _
 
-module _ (front t : List ℕ) (b : ℕ) (B : starts b ≡ true) where
+module _ (front t : List ℕ) (b : ℕ) (B : isStart b ≡ true) where
   abbrev X : List ℕ
   X = xs front t b B
 

@@ -5,10 +5,9 @@ use mathlib.Core.Path.{refl}
 use mathlib.Core.List.{List}
 use lib.ListN.{length}
 use Rattle.text.proofs.Alike.{Alike, both-to, then-alike, and-alike, must-alike, maybe-alike, many-alike}
-use Rattle.text.proofs.SharedLines.{Shared, told, blanks-alike, account-alike, byte-alike, currency-alike}
+use Rattle.text.proofs.SharedLines.{Shared, told, blanks-alike, account-alike, byte-alike, currency-alike, comma-alike}
 use Rattle.amount.proofs.ExpressionAlike.{expression-alike}
 use Rattle.amount.proofs.AmountLaws.{hard-gap-alike}
-use Rattle.posting.proofs.PostingAlike.{comma-alike}
 use Rattle.content.specs.Contents.{hardAccount, tolerance, balanceOf, oneCurrency, further, currencies, padOf}
 use Rattle.content.proofs.ContentEnds.{further-reach}
 

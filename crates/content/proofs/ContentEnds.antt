@@ -6,15 +6,14 @@ use lib.ListN.{length}
 use Rattle.text.specs.Bytes.{isBlank}
 use Rattle.text.specs.Run.{blanks}
 use Rattle.text.specs.Answer.{must, maybe, many}
-use Rattle.text.specs.Leaves.{account, currency, byte}
+use Rattle.text.specs.Leaves.{account, currency, byte, comma}
 use Rattle.text.proofs.Joins.{Reach, to-reach, reach-from, must-reach, then-reach, and-reach}
-use Rattle.text.proofs.TokenEnds.{run-reach, account-reach, currency-reach, byte-reach}
+use Rattle.text.proofs.TokenEnds.{run-reach, account-reach, currency-reach, byte-reach, comma-reach}
 use Rattle.amount.specs.Expression.{expression}
 use Rattle.amount.specs.Amounts.{hardGap}
 use Rattle.amount.proofs.ExpressionEnds.{expression-reach}
-use Rattle.amount.proofs.AmountLaws.{hard-gap-reach}
-use Rattle.posting.specs.Costs.{comma}
-use Rattle.posting.proofs.PostingEnds.{optional-reach, repeated-reach, spaced-reach, quoted-reach, comma-reach}
+use Rattle.amount.proofs.AmountLaws.{hard-gap-reach, quoted-reach}
+use Rattle.posting.proofs.PostingEnds.{optional-reach, repeated-reach, spaced-reach}
 use Rattle.content.specs.Contents.{hardAccount, hardString, tolerance, balanceOf, oneCurrency, further, currencies, booking, openOf, padOf, eventOf}
 
 module _ (s : List ℕ) where

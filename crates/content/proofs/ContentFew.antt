@@ -3,14 +3,14 @@ use Prim.Native.Nat.{ℕ, suc, _+_, _≤_}
 use native.Mathlib.Omega.{arith}
 use mathlib.Core.List.{List}
 use lib.ListN.{length}
-use Rattle.text.specs.Bytes.{bytes, isBlank}
+use Rattle.text.specs.Bytes.{isBlank}
 use Rattle.text.specs.Run.{blanks}
 use Rattle.text.specs.Answer.{_and_, must, maybe}
-use Rattle.text.specs.Leaves.{account, currency, byte}
+use Rattle.text.specs.Leaves.{account, currency, byte, comma}
 use Rattle.text.proofs.Joins.{must-reach}
 use Rattle.text.proofs.Inversions.{must-inv}
-use Rattle.text.proofs.TokenEnds.{run-reach, account-reach, currency-reach, byte-reach}
-use Rattle.amount.specs.Details.{Rows, span}
+use Rattle.text.proofs.TokenEnds.{run-reach, account-reach, currency-reach, byte-reach, comma-reach}
+use Rattle.amount.specs.Details.{Rows, span, quoted}
 use Rattle.amount.specs.Expression.{expression}
 use Rattle.amount.specs.Amounts.{hardGap}
 use Rattle.amount.proofs.ExpressionEnds.{expression-reach}
@@ -18,10 +18,9 @@ use Rattle.amount.proofs.AmountLaws.{hard-gap-reach}
 use Rattle.amount.proofs.ValueSizes.{read-small}
 use Rattle.amount.proofs.RowCounts.{unflagged, Of, span-filled, valued-filled, placed-wide, Fits, to-fits, fits-from, must-fits, row-fits, then-rows, then-read, and-fits, maybe-fits, many-fits, must-bare, bare-and, account-bare, currency-bare, byte-bare}
 use Rattle.amount.proofs.AmountFew.{hard-gap-bare}
-use Rattle.posting.specs.Costs.{comma}
-use Rattle.posting.specs.Metadata.{quoted}
-use Rattle.posting.proofs.PostingEnds.{optional-reach, spaced-reach, comma-reach}
-use Rattle.posting.proofs.PostingFew.{spaced-fits, quoted-fits, comma-bare}
+use Rattle.posting.proofs.PostingEnds.{optional-reach, spaced-reach}
+use Rattle.amount.proofs.RowCounts.{comma-bare, quoted-fits}
+use Rattle.posting.proofs.PostingFew.{spaced-fits}
 use Rattle.content.specs.Contents.{hardAccount, hardString, tolerance, balanceOf, oneCurrency, further, currencies, booking, openOf, padOf, eventOf}
 use Rattle.content.proofs.ContentEnds.{hard-account-reach, hard-string-reach, tolerance-reach, one-currency-reach, further-reach, currencies-reach}
 

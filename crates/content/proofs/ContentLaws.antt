@@ -11,7 +11,7 @@ use Rattle.text.specs.Accounts.{accountAt}
 use Rattle.text.specs.Currencies.{currencyAt}
 use Rattle.text.specs.declared.Read.{Read}
 use Rattle.text.specs.declared.account.AccountRead.{AccountRead}
-use Rattle.amount.specs.Details.{Rows, span}
+use Rattle.amount.specs.Details.{Rows, span, quoted}
 use Rattle.amount.specs.Expression.{expression}
 use Rattle.amount.specs.Amounts.{hardGap, hardCurrency, hardAmount, priceOf}
 use Rattle.amount.specs.steps.Answers.{pairOf}
@@ -26,9 +26,8 @@ use Rattle.row.proofs.OutLaws.{noted-room, wrote-one, wrote-then}
 use Rattle.row.proofs.SureLaws.{Sure, sure-must, sure-and}
 use Rattle.row.proofs.DidLaws.{did-read, did-hard, did-emit, must-read, must-miss}
 use Rattle.row.proofs.TokenLaws.{token-read, token-miss, must-token-read, must-token-miss, must-account-read, must-account-miss, must-account-hard}
-use Rattle.posting.specs.Metadata.{quoted}
 use Rattle.posting.proofs.MetaLaws.{string-fits, string-takes}
-use Rattle.posting.proofs.OneRows.{row, token-row}
+use Rattle.amount.proofs.OneRows.{row, token-row}
 use Rattle.content.specs.Contents.{hardAccount, hardString, padOf, eventOf}
 use Rattle.content.specs.steps.Parts.{pastGap}
 use Rattle.content.proofs.RowLaws.{Makes, makes, refuses, makes-sure, makes-and, makes-token, makes-then, makes-one, pair-read, pair-hard, one-more, join-read, join-miss, join-hard}

@@ -7,36 +7,34 @@ use lib.ListN.{length}
 use Rattle.text.specs.Bytes.{isBlank}
 use Rattle.text.specs.Run.{blanks}
 use Rattle.text.specs.Answer.{To, Miss, Hard, _and_, maybe}
-use Rattle.text.specs.Leaves.{gap, string, currency}
-use Rattle.text.specs.Lines.{gapAt}
+use Rattle.text.specs.Leaves.{gap, comma, string, currency}
+use Rattle.text.specs.Lines.{gapAt, commaAt}
 use Rattle.text.specs.Strings.{stringAt}
 use Rattle.text.specs.Currencies.{currencyAt}
 use Rattle.text.specs.declared.Read.{Read}
 use Rattle.text.proofs.Steps.{run-ends}
 use Rattle.text.proofs.Joins.{Reach, and-assoc}
 use Rattle.text.specs.Permitted.{sizeLimit}
-use Rattle.amount.specs.Details.{Rows, span}
+use Rattle.amount.specs.Details.{span, quoted}
 use Rattle.amount.specs.steps.Answers.{oneOf}
 use Rattle.amount.specs.declared.detail.Detail.{Detail}
 use Rattle.amount.specs.declared.detail.One.{One}
 use Rattle.amount.proofs.RowCounts.{maybe-fits}
 use Rattle.row.specs.Row.{pourAt}
 use Rattle.row.specs.Details.{laid}
-use Rattle.row.specs.steps.Writing.{noted, Did, Room, Writable}
+use Rattle.row.specs.steps.Writing.{noted, Did, Room}
 use Rattle.row.specs.declared.writer.Out.{Out}
 use Rattle.row.specs.declared.writer.Ran.{Ran}
-use Rattle.row.proofs.PourLaws.{length-pourAt}
 use Rattle.row.proofs.OutLaws.{rows-noted}
 use Rattle.row.proofs.SureLaws.{Sure, sure-to, sure-maybe, sure-many, sure-and}
-use Rattle.row.proofs.DidLaws.{did-miss, did-hard, did-none, did-emit, and-read, maybe-sure}
-use Rattle.posting.specs.Metadata.{quoted}
-use Rattle.posting.specs.steps.Lots.{commaAt}
+use Rattle.row.proofs.DidLaws.{did-none, did-emit, and-read, maybe-sure}
 use Rattle.posting.proofs.PostingEnds.{optional-reach, spaced-reach}
 use Rattle.posting.proofs.PostingFew.{spaced-fits}
 use Rattle.posting.proofs.MetaLaws.{string-fits, string-takes}
-use Rattle.posting.proofs.OneRows.{OneRow, row, one-read, one-miss, one-hard, token-to, token-miss, token-row}
-use Rattle.posting.proofs.LotLaws.{comma-past, comma-token}
-use Rattle.posting.proofs.ManyLaws.{Stepping, Runs, runs-start, runs-room, runs-done, runs-less, runs-turn, runs-stop, runs-halt}
+use Rattle.amount.proofs.OneRows.{OneRow, row, one-read, one-miss, one-hard, token-to, token-miss, token-row}
+use Rattle.text.proofs.LineLaws.{comma-past}
+use Rattle.row.proofs.ManyLaws.{Runs, runs-start}
+use Rattle.row.proofs.SingleLaws.{Single, single-laws}
 use Rattle.content.specs.Contents.{hardAccount, oneCurrency, further, currencies, booking, openOf}
 use Rattle.content.specs.steps.Parts.{gapCurrency, furthers, currenciesOf, bookingOf, listedOf}
 use Rattle.content.proofs.ContentEnds.{hard-account-reach, one-currency-reach, currencies-reach, further-reach}
@@ -81,12 +79,12 @@ module _ (s : List ℕ) (at : ℕ) where
 
   module _ (x : Read) (p : x ≡ commaAt s at) where
     pub further-on : (j : ℕ) (r : One) → x ≡ Read.To j → r ≡ oneOf (oneCurrency s j) → r ≡ oneOf (further s at)
-    unfolding further
-    further-on j r q w = rw (comma-token s at, token-to x (commaAt s at) p (oneCurrency s) j q) w
+    unfolding further comma
+    further-on j r q w = rw (token-to x (commaAt s at) p (oneCurrency s) j q) w
 
     pub further-none : x ≡ Read.Miss → One.Miss ≡ oneOf (further s at)
-    unfolding further oneOf
-    further-none q = rw (comma-token s at, token-miss x (commaAt s at) p (oneCurrency s) q)
+    unfolding further comma oneOf
+    further-none q = rw (token-miss x (commaAt s at) p (oneCurrency s) q)
 
   one-row : OneRow (oneCurrency s at)
   unfolding oneCurrency currency
@@ -98,8 +96,8 @@ module _ (s : List ℕ) (at : ℕ) where
   gap-currency-row = token-row (gapAt s at) _ (λ j. one-row s j)
 
   further-row : OneRow (further s at)
-  unfolding further
-  further-row = rw (comma-token s at) (token-row (commaAt s at) _ (λ j. one-row s j))
+  unfolding further comma
+  further-row = token-row (commaAt s at) _ (λ j. one-row s j)
 
   booking-row : OneRow (booking s at)
   unfolding booking gap quoted string
@@ -125,45 +123,17 @@ module _ (base : ℕ) (s : List ℕ) (at : ℕ) (o : Out) (t : List ℕ) (x : On
 
 module _ (s : List ℕ) where
   further-end : further s (length s) ≡ Miss
-  unfolding further
+  unfolding further comma
   further-end =
-      rw (comma-token s (length s))
-      (token-miss Read.Miss (commaAt s (length s)) (comma-past s (length s) (blanks s (length s)) refl (rw (run-ends isBlank s (length s) (omega arith)) (omega arith))) (oneCurrency s) refl)
+      let n = length s in
+      token-miss Read.Miss (commaAt s n) (comma-past s n (blanks s n) refl (rw (run-ends isBlank s n (omega arith)) (omega arith))) (oneCurrency s) refl
 
-  pub further-stepping : Stepping (length s) (further s)
-  further-stepping = record { text = s; reach = further-reach s; fits = further-fits s; ends = further-end }
+  pub further-single : Single (length s) (further s)
+  further-single = record { stepping = record { text = s; reach = further-reach s; fits = further-fits s; ends = further-end }; row = further-row s }
 
   pub furthers-start : (base at : ℕ) (o : Out) (t : List ℕ) → at ≤ length s → o .rows ≤ at → Runs base (length s) (further s) (furthers s at) o t at o t
   unfolding furthers
   furthers-start base at o t = runs-start base (length s) (further s) at o t
-
-  module _ (base : ℕ) (a₀ : Rows) (o₀ : Out) (t₀ : List ℕ) (i : ℕ) (o : Out) (t : List ℕ) (R : Runs base (length s) (further s) a₀ o₀ t₀ i o t) where
-    pub furthers-room : base ≤ sizeLimit → length s ≤ sizeLimit → Writable 1 base o
-    furthers-room = runs-room base (length s) (further s) a₀ o₀ t₀ i o t R
-
-    pub furthers-done : length s ≤ i → Did base a₀ o₀ t₀ t (Ran.To i o)
-    furthers-done = runs-done base (length s) (further s) a₀ o₀ t₀ i o t R further-stepping
-
-    -- a turn: x is the code's answer
-    module _ (x : One) (p : x ≡ oneOf (further s i)) where
-      module _ (e : ℕ) (d : Detail) (q : x ≡ One.Read e d) (m : Out) (v : List ℕ) (k : m ≡ noted o d) (l : v ≡ pourAt (o .rows) (laid base d ∷ []) t) where
-        turned : Did base (further s i) o t v (Ran.To e m)
-        turned = rw (one-read x e d (further-row s i) p q) (did-emit base o t e d d m v k l refl)
-
-        pub furthers-less : length s - e < length s - i
-        furthers-less = runs-less base (length s) (further s) a₀ o₀ t₀ i o t R further-stepping v (Ran.To e m) turned e m refl
-
-        pub furthers-turn : Runs base (length s) (further s) a₀ o₀ t₀ e m v
-        furthers-turn =
-            runs-turn base (length s) (further s) a₀ o₀ t₀ i o t R further-stepping v (Ran.To e m) turned e m refl (ap (λ (z : List ℕ). length z) l ∙ length-pourAt (o .rows) (laid base d ∷ []) t)
-
-      pub furthers-stop : x ≡ One.Miss → Did base a₀ o₀ t₀ t (Ran.To i o)
-      furthers-stop q =
-          runs-stop base (length s) (further s) a₀ o₀ t₀ i o t R further-stepping t Ran.Miss (did-miss base o t (further s i) (one-miss (further s i) x p q)) refl
-
-      pub furthers-halt : (k n : ℕ) (u : List ℕ) → x ≡ One.Hard k n → Did base a₀ o₀ t₀ u (Ran.Hard k n)
-      furthers-halt k n u q =
-          runs-halt base (length s) (further s) a₀ o₀ t₀ i o t R further-stepping t (Ran.Hard k n) (did-hard base o t (further s i) k n t (one-hard (further s i) x k n p q)) k n u refl
 
 -- ---- optionally gap and currencies: x is the code's answer to the gap and the first
 
@@ -274,7 +244,7 @@ pub ruleset further-laws = (further-on, further-none)
 
 pub ruleset booking-laws = (booking-read, booking-gone, booking-hard)
 
-pub ruleset furthers-laws = (furthers-start, furthers-room, furthers-done, furthers-less, furthers-turn, furthers-stop, furthers-halt)
+pub ruleset furthers-laws = (further-single, furthers-start, single-laws)
 
 pub ruleset currencies-laws = (currencies-within, currencies-few, currencies-read, currencies-none, currencies-hard)
 

@@ -21,7 +21,7 @@ use Rattle.row.specs.declared.writer.Ran.{Ran}
 use Rattle.row.proofs.OutLaws.{rows-outs}
 use Rattle.row.proofs.SureLaws.{Sure, sure-to, sure-hard}
 use Rattle.row.proofs.DidLaws.{was-read, and-read, and-miss, and-hard}
-use Rattle.posting.proofs.OneRows.{OneRow, row, none, hard}
+use Rattle.amount.proofs.OneRows.{OneRow, row, none, hard}
 
 -- ---- an answer that makes n rows, and does not miss
 

@@ -5,13 +5,11 @@ use mathlib.Core.List.{List, [], _∷_}
 use lib.ListN.{length}
 use Rattle.text.specs.Run.{blanks}
 use Rattle.text.specs.Answer.{To, _then_, _and_, must, maybe, many}
-use Rattle.text.specs.Leaves.{gap, account, currency, byte}
+use Rattle.text.specs.Leaves.{gap, account, currency, byte, comma}
 use Rattle.amount.specs.Kinds.{accountKind, amountKind, toleranceKind, currencyKind, bookingKind, stringKind}
-use Rattle.amount.specs.Details.{Rows, span, valued}
+use Rattle.amount.specs.Details.{Rows, span, valued, quoted}
 use Rattle.amount.specs.Expression.{expression}
 use Rattle.amount.specs.Amounts.{hardGap}
-use Rattle.posting.specs.Costs.{comma}
-use Rattle.posting.specs.Metadata.{quoted}
 
 unfoldable pub hardAccount : List ℕ → ℕ → Rows
 hardAccount s at = must at (account s at) and λ e. To e (span accountKind at e ∷ [])

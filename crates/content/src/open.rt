@@ -3,7 +3,6 @@ use crate::content;
 use amount::detail;
 use amount::detail::One;
 use amount::kind;
-use posting::cost;
 use row::writer;
 use row::writer::Out;
 use row::writer::Ran;
@@ -31,7 +30,7 @@ fn one_currency(s: &[u8], at: usize) -> One
 fn further_at(s: &[u8], at: usize) -> One
     ensures { λ r. ⌜ r ≡ oneOf (further (now (s .entry)) at) ⌝ }
 {
-    let c = cost::comma_at(s, at);
+    let c = line::comma_at(s, at);
     match c {
         Read::To(j) => one_currency(s, j),
         Read::Miss => One::Miss,

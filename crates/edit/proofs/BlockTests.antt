@@ -10,7 +10,7 @@ use lib.Dec.{eqb}
 use lib.ListN.{length, getD, drop, length-drop}
 use Rattle.text.proofs.TestLaws.{and-left, and-right}
 use Rattle.text.proofs.Steps.{such-within}
-use Rattle.row.specs.Strings.{isStart, cuts}
+use Rattle.text.specs.Boundaries.{isStart, cuts}
 use Rattle.entry.proofs.HeldLaws.{start-zero}
 use Rattle.recovery.specs.Recovering.{blockLength}
 use Rattle.recovery.proofs.BlockLaws.{block-le, cut-is}

@@ -18,7 +18,7 @@ use Rattle.text.specs.Every.{Every}
 use Rattle.amount.proofs.RowCounts.{refusalKind, midLine}
 use Rattle.row.specs.declared.table.Row.{Row}
 use Rattle.row.specs.Row.{width, rowsBytes, feeds}
-use Rattle.row.specs.Strings.{isStart, cuts}
+use Rattle.text.specs.Boundaries.{isStart, cuts}
 use Rattle.row.proofs.PourLaws.{le-or-lt}
 use Rattle.row.proofs.LineLaws.{feeds-le}
 use Rattle.row.specs.Field.{fieldLimit}
@@ -38,6 +38,7 @@ use Rattle.edit.specs.Afresh.{Edit, editedRows, Afresh, BeforeStay}
 use Rattle.edit.proofs.BlockTests.{or-cases, block-starts, block-ends, block-bounds}
 use Rattle.edit.proofs.MoveLaws.{moveAll, recover-all, Joined, joined-rows}
 use Rattle.row.proofs.ReadBack.{wrapped}
+use Rattle.ledger.proofs.PlainLaws.{accepted-same}
 use Rattle.edit.proofs.RowBytes.{rows-in, all-wrapped, all-shifted}
 use Rattle.edit.proofs.SuchLaws.{such-append, such-all, such-none, such-wrapped}
 
@@ -293,9 +294,6 @@ module _ (s : List ℕ) (a e : ℕ) (y : List ℕ) (g : Edit s a e y) where
   front-stays = rw (old-rows, new-rows, before-is) (front-is (Y ++ T₁) ∙ sym (front-is (X ++ T)))
 
 -- ---- the claims on lists
-
-accepted-same : (ps qs : List Row) → accepted ps ≡ accepted qs → ps ≡ qs
-accepted-same ps qs e = cc
 
 -- the rows of recovering reading
 pub rows-are : (s : List ℕ) (rs : List Row) → length s ≤ sizeLimit → recovered s ≡ accepted rs → recoverFrom (length s) 0 0 s ≡ rs

@@ -13,7 +13,7 @@ use Rattle.text.specs.Every.{Every}
 use Rattle.row.specs.declared.table.Row.{Row}
 use Rattle.row.specs.Row.{rowOf, feeds}
 use Rattle.row.specs.Details.{spanned}
-use Rattle.row.specs.Strings.{isStart}
+use Rattle.text.specs.Boundaries.{isStart}
 use Rattle.amount.proofs.RowCounts.{refusalKind}
 use Rattle.entry.proofs.EntryLines.{OnLine}
 use Rattle.entry.proofs.EntryCut.{Ends}

@@ -12,8 +12,8 @@ use Rattle.text.specs.Permitted.{sizeLimit}
 use Rattle.row.specs.declared.table.Row.{Row}
 use Rattle.row.specs.Row.{width, rowIn, feeds, pour, pourAt}
 use Rattle.row.proofs.PourLaws.{length-pour, length-pourAt, pour-append, pourAt-at, pourAt-append}
-use Rattle.ledger.proofs.ScanLaws.{rest-of}
 use Rattle.edit.specs.Edits.{before}
+use Rattle.text.proofs.Steps.{rest-of}
 use Rattle.edit.specs.declared.pick.Pick.{Pick}
 use Rattle.edit.specs.declared.reread.Plan.{Plan}
 use Rattle.edit.specs.declared.reread.Counts.{Counts}

@@ -13,7 +13,7 @@ use mir.Val.{Fits}
 use Rattle.row.specs.declared.table.Row.{Row}
 use Rattle.row.specs.Row.{width, rowIn, pour, pourAt}
 use Rattle.row.proofs.PourLaws.{length-pourAt, pourAt-none, pourAt-zero, pourAt-append}
-use Rattle.ledger.proofs.ScanLaws.{rest-of}
+use Rattle.text.proofs.Steps.{rest-of}
 use Rattle.edit.specs.declared.moves.By.{By}
 use Rattle.edit.specs.declared.pick.Pick.{Pick}
 use Rattle.edit.specs.steps.Moving.{shiftBy, picks, picked, pickedRows, Given}

@@ -19,6 +19,7 @@ use Rattle.row.proofs.ReadBack.{wrapped, rows-front}
 use Rattle.row.specs.Pouring.{bytesOf}
 use Rattle.entry.proofs.EntryLines.{OnLine}
 use Rattle.edit.specs.Edits.{moveOn, shift}
+use Rattle.row.proofs.WriteLaws.{mod-four}
 use Rattle.edit.specs.Afresh.{KeepsBytes}
 use Rattle.edit.proofs.MoveLaws.{moveAll}
 
@@ -57,12 +58,6 @@ pub low-field : (x : ℕ) → x < fieldLimit → un (le 4 x) ≡ x
 low-field x h = un-le 4 x ∙ (omega arith)
 
 -- ---- moved: what was at a place from a on and at line l is b and m on now
-
-four : {a b c d w x y z : ℕ} → a ≡ w → b ≡ x → c ≡ y → d ≡ z → (a ∷ b ∷ c ∷ d ∷ []) ≡ (w ∷ x ∷ y ∷ z ∷ [])
-four e f g h = rw (e, f, g, h)
-
-mod-four : (x y : ℕ) → x % fieldLimit ≡ y % fieldLimit → le 4 x ≡ le 4 y
-mod-four x y h = four (omega arith) (omega arith) (omega arith) (omega arith)
 
 mod-in : (x d : ℕ) → ((x % fieldLimit + d) % fieldLimit) % fieldLimit ≡ (x + d) % fieldLimit
 mod-in x d = omega arith

@@ -14,8 +14,8 @@ use Rattle.row.specs.Row.{width, rowBytes, rowIn, pourAt}
 use Rattle.row.specs.Details.{spanned}
 use Rattle.row.proofs.PourLaws.{length-rowBytes, length-pourAt, pour-none, pour-fits, pourAt-at}
 use Rattle.row.specs.Field.{fieldLimit}
-use Rattle.ledger.proofs.ScanLaws.{rest-of}
 use Rattle.edit.specs.Edits.{moveOn, shift}
+use Rattle.text.proofs.Steps.{rest-of}
 use Rattle.edit.specs.declared.moves.By.{By}
 use Rattle.edit.specs.steps.Moving.{shiftBy, movedIn}
 

@@ -9,10 +9,9 @@ use lib.Dec.{eqb}
 use lib.ListN.{length, getD, take, drop, length-drop}
 use mir.Syntax.{w64}
 use mir.Val.{Fits}
-use Rattle.text.proofs.Steps.{getD-past}
-use Rattle.row.specs.Strings.{isStart, cuts}
+use Rattle.text.proofs.Steps.{getD-past, rest-of}
+use Rattle.text.specs.Boundaries.{isStart, cuts}
 use Rattle.entry.proofs.HeldLaws.{start-zero}
-use Rattle.ledger.proofs.ScanLaws.{rest-of}
 use Rattle.recovery.specs.Recovering.{blockLength}
 use Rattle.recovery.proofs.BlockLaws.{block-le}
 use Rattle.recovery.specs.Demand3.{startsTail, endsLine}

@@ -9,9 +9,9 @@ use Rattle.text.specs.Permitted.{sizeLimit}
 use Rattle.row.specs.declared.table.Row.{Row}
 use Rattle.row.specs.Row.{rowsIn, feeds, room}
 use Rattle.row.specs.Details.{spanned}
-use Rattle.row.specs.Strings.{cuts}
 use Rattle.row.specs.Field.{fieldLimit}
 use Rattle.ledger.specs.Plain.{Reading, accepted, denied}
+use Rattle.text.specs.Boundaries.{cuts}
 use Rattle.recovery.specs.Recovering.{blockLength, recoverFrom}
 use Rattle.recovery.specs.Demand3.{startsTail, endsLine}
 use Rattle.amount.specs.Kinds.{refusalKind}

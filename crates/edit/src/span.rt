@@ -6,7 +6,7 @@ ghost use mathlib.Core.Bool.{_||_};
 ghost use Prim.Native.Nat.{_-_};
 ghost use lib.Dec.{eqb};
 ghost use lib.ListN.{getD};
-ghost use Rattle.row.specs.Strings.{cuts};
+ghost use Rattle.text.specs.Boundaries.{cuts};
 ghost use Rattle.recovery.specs.Demand3.{startsTail, endsLine};
 ghost use Rattle.edit.specs.Edits.{isBlock, isNew};
 

@@ -39,9 +39,6 @@ unfolding isPlus
 plus-open b e = ne-eqb b 41 (differ isPlus b 41 e refl)
 
 module _ (calc : Arithmetic) (s : List ℕ) where
-  abbrev N : ℕ
-  N = length s
-
   step-sound : (f : Frame) (e : ℕ) (v : Value) (t r : Bool) → isTimes (getD s (blanks s e) 0) ≡ t → isPlus (getD s (blanks s e) 0) ≡ r → Sound calc s (stepOf calc s f e v)
   unfolding Sound stepOf afterOf totalOf fallback fallsTo closed _then_
   step-sound f e v true r h l = rw (h, times-open _ h)

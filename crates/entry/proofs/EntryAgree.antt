@@ -13,19 +13,19 @@ use Rattle.text.specs.Run.{runTo}
 use Rattle.text.specs.Answer.{Ans, To, Miss, Hard, more, _then_, _and_}
 use Rattle.text.specs.Leaves.{gap, lineEnd}
 use Rattle.text.proofs.TestLaws.{absurd-bool}
-use Rattle.text.proofs.InLine.{hasLF, starts}
+use Rattle.text.proofs.InLine.{hasLF, no-lf}
 use Rattle.text.proofs.Joins.{Reach, reach-from, must-reach, and-reach}
 use Rattle.text.proofs.Alike.{Same, Upto, upto, both-to, to-same, if-alike}
 use Rattle.text.proofs.SharedLines.{Shared, byte-same, run-alike, gap-alike, line-alike, tag-alike, word-alike, date-alike}
+use Rattle.text.specs.Boundaries.{isStart}
 use Rattle.text.proofs.TokenEnds.{gap-reach, line-reach}
 use Rattle.text.proofs.TextCut.{xs, s, cut}
 use Rattle.amount.specs.declared.detail.Detail.{Detail}
-use Rattle.amount.specs.Details.{Rows, span}
+use Rattle.amount.specs.Details.{Rows, span, quoted}
 use Rattle.amount.specs.Amounts.{hardCurrency, priceOf}
-use Rattle.amount.proofs.AmountLaws.{hard-gap-alike, hard-currency-alike, price-of-alike}
+use Rattle.amount.proofs.AmountLaws.{hard-gap-alike, hard-currency-alike, price-of-alike, quoted-reach}
 use Rattle.row.proofs.SureLaws.{Sure, sure-to, sure-hard, sure-must, sure-more}
-use Rattle.posting.specs.Metadata.{quoted, metadata}
-use Rattle.posting.proofs.PostingEnds.{quoted-reach}
+use Rattle.posting.specs.Metadata.{metadata}
 use Rattle.posting.proofs.Agree.{torn, torn-right, torn-more, Agree, Agrees, misses, refuses, reads, crosses, lost-map, same-agree, then-at, and-at, and-agree, and-strict, and-loose, more-agree, else-agree}
 use Rattle.posting.proofs.PostingAgree.{longer, line-agree, sure-metadata}
 use Rattle.content.specs.Contents.{hardAccount, balanceOf, openOf, padOf, eventOf}
@@ -86,11 +86,7 @@ words-lf : (hasLF (bytes "price") ≡ false) × (hasLF (bytes "balance") ≡ fal
 unfolding bytes hasLF
 words-lf = (refl, refl, refl, refl, refl, refl, refl, refl, refl, refl, refl)
 
-lf-ends : inLine 10 ≡ false
-unfolding inLine
-lf-ends = refl
-
-module _ (front t : List ℕ) (b : ℕ) (B : starts b ≡ true) where
+module _ (front t : List ℕ) (b : ℕ) (B : isStart b ≡ true) where
   abbrev X : List ℕ
   X = xs front t b B
 
@@ -195,7 +191,7 @@ module _ (front t : List ℕ) (b : ℕ) (B : starts b ≡ true) where
   blank-same : 0 < M → Same (suc M) (blank S) (blank X)
   unfolding blank asEntry
   blank-same h =
-      let T = run-alike C inLine lf-ends (upto 0 h) in
+      let T = run-alike C inLine (no-lf .line) (upto 0 h) in
       rw (byte-same C T) (if-alike (eqb (getD S (runTo inLine S 0) 0) 10) _ _ (λ e. both-to _ _ _ _ (C .past _ _ T e) (λ _. refl)))
 
   form-agree : 0 < M → Clear M (lostEvent S) → Agree inForm M (suc M) false (formOf S) (formOf X)

@@ -14,7 +14,7 @@ use Rattle.text.specs.Answer.{To}
 use Rattle.text.proofs.TestLaws.{absurd-bool, and-left, and-right}
 use Rattle.row.specs.declared.table.Row.{Row}
 use Rattle.row.specs.Row.{rowOf}
-use Rattle.row.specs.Strings.{isStart}
+use Rattle.text.specs.Boundaries.{isStart}
 use Rattle.posting.proofs.Agree.{torn}
 use Rattle.entry.specs.Forms.{Form, formOf}
 use Rattle.entry.specs.Entry.{detailRow, rowsOf, got, judged, settled, entryOf}

@@ -11,15 +11,15 @@ use lib.ListN.{length, getD}
 use Rattle.text.specs.Bytes.{bytes, inLine}
 use Rattle.text.specs.Run.{runTo}
 use Rattle.text.specs.Answer.{To, Miss, Hard, must}
-use Rattle.text.specs.Leaves.{gap, lineEnd, date, tag, byte, word}
+use Rattle.text.specs.Leaves.{gap, lineEnd, date, tag, word}
 use Rattle.text.proofs.Steps.{byte-within}
 use Rattle.text.proofs.Joins.{Reach, to-reach, miss-reach, hard-reach, reach-from, cond-reach, must-reach, else-reach, then-reach, and-reach}
 use Rattle.text.proofs.TokenEnds.{gap-reach, line-reach, tag-reach, word-reach, date-reach}
-use Rattle.amount.specs.Details.{Rows}
+use Rattle.amount.specs.Details.{Rows, quoted}
 use Rattle.amount.specs.Amounts.{hardGap, hardCurrency, priceOf}
-use Rattle.amount.proofs.AmountLaws.{hard-gap-reach, hard-currency-reach, price-of-reach}
-use Rattle.posting.specs.Metadata.{quoted, metadata}
-use Rattle.posting.proofs.PostingEnds.{quoted-reach, metadata-reach}
+use Rattle.amount.proofs.AmountLaws.{hard-gap-reach, hard-currency-reach, price-of-reach, quoted-reach}
+use Rattle.posting.specs.Metadata.{metadata}
+use Rattle.posting.proofs.PostingEnds.{metadata-reach}
 use Rattle.content.specs.Contents.{hardAccount, hardString, balanceOf, openOf, padOf, eventOf}
 use Rattle.entry.specs.Directive.{keyword, option, include, tagged}
 use Rattle.entry.specs.Forms.{asEntry, dateless, directive, blank, formOf}

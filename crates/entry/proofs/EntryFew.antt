@@ -9,10 +9,9 @@ use Rattle.text.specs.Answer.{_and_}
 use Rattle.text.specs.Leaves.{lineEnd, word}
 use Rattle.text.proofs.Joins.{Reach}
 use Rattle.text.proofs.TokenEnds.{line-reach, tag-reach, word-reach}
-use Rattle.amount.specs.Details.{Rows}
+use Rattle.amount.specs.Details.{Rows, quoted}
 use Rattle.amount.proofs.RowCounts.{span-filled, Fits, fits-from, fits-wide, must-fits, row-fits, and-fits, bare-and, word-bare, tag-and}
-use Rattle.posting.specs.Metadata.{quoted}
-use Rattle.posting.proofs.PostingEnds.{quoted-reach}
+use Rattle.amount.proofs.AmountLaws.{quoted-reach}
 use Rattle.posting.proofs.PostingFew.{line-fits, gap-and, metadata-fits}
 use Rattle.content.specs.Contents.{hardString}
 use Rattle.entry.specs.Directive.{keyword, option, include, tagged}

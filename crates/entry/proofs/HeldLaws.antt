@@ -8,14 +8,14 @@ use borrow.Author.Tests.{eqb-true, ltb-true, not-true}
 use lib.Dec.{eqb, ltb}
 use lib.ListN.{getD, take, drop}
 use lib.Seq.{drop-drop, getD-drop, getD-take}
-use Rattle.text.specs.Bytes.{isDigit, isSmall}
-use Rattle.text.proofs.TestLaws.{absurd-bool, or-left, or-right, and-left, and-right}
+use Rattle.text.specs.Bytes.{isDigit, isSmall, between}
+use Rattle.text.proofs.TestLaws.{absurd-bool, or-left, or-right, or-second, and-left, and-right}
 use Rattle.amount.specs.declared.detail.Detail.{Detail}
-use Rattle.amount.specs.Literal.{between}
 use Rattle.row.specs.declared.table.Row.{Row}
 use Rattle.row.specs.Row.{rowOf}
 use Rattle.row.specs.Details.{spanned}
-use Rattle.row.specs.Strings.{isStart, cuts, holds, counted, held}
+use Rattle.text.specs.Boundaries.{isStart, cuts, holds}
+use Rattle.row.specs.Strings.{counted, held}
 use Rattle.posting.proofs.Agree.{tornBy, torn}
 use Rattle.entry.specs.Entry.{detailRow}
 use Rattle.entry.specs.Lost.{lostEvent, anyHeld, readHeld, lostHeld, fine, whole}
@@ -68,10 +68,6 @@ unfolding holds
 holds-at [] i e f = absurd-bool (sym start-zero ∙ f)
 holds-at (c ∷ s) zero e f = rw (e, f)
 holds-at (c ∷ s) (suc i) e f = or-second (cuts c (getD s 0 0)) (holds s) (holds-at s i e f)
-  where
-    or-second : (a b : Bool) → b ≡ true → (a || b) ≡ true
-    or-second true b e = refl
-    or-second false b e = e
 
 -- m is the place of the line feed before the boundary
 module _ (s : List ℕ) (m : ℕ) (lf : getD s m 0 ≡ 10) (st : isStart (getD s (m + 1) 0) ≡ true) where

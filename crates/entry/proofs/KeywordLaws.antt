@@ -9,10 +9,10 @@ use lib.Dec.{eqb}
 use lib.ListN.{length, drop}
 use Rattle.text.specs.Bytes.{bytes}
 use Rattle.text.specs.Words.{startsWith, wordAt}
-use Rattle.text.specs.Answer.{Ans, To, Miss, Hard, _and_, _else_}
+use Rattle.text.specs.Answer.{Ans, To, Miss, _and_, _else_}
 use Rattle.text.specs.Leaves.{token, word}
 use Rattle.text.proofs.TokenEnds.{word-reach}
-use Rattle.text.proofs.Joins.{Reach}
+use Rattle.text.proofs.Joins.{Reach, else-none}
 use Rattle.text.specs.declared.Read.{Read}
 use Rattle.text.proofs.TestLaws.{absurd-bool, and-left, and-right}
 use Rattle.amount.specs.declared.detail.Detail.{Detail}
@@ -24,7 +24,7 @@ use Rattle.entry.specs.steps.Formed.{contentEnd}
 use Rattle.entry.specs.steps.Formed.{orKeyword, lateKeyword, middleKeyword, keywordAt, gapContent, byKeyword}
 use Rattle.entry.specs.steps.Undated.{optionOf, includeEnd, includeOf, tagOf, poptagForm, pushtagForm, includeForm, optionForm}
 use Rattle.entry.specs.declared.directive.Keyword.{Keyword}
-use Rattle.entry.proofs.TokenJoins.{token-on, token-off}
+use Rattle.amount.proofs.OneRows.{token-to, token-miss}
 
 -- ---- words that differ at a place that both have
 
@@ -70,12 +70,6 @@ abbrev distinct : Words → Bool
 distinct [] = true
 distinct ((k, w) ∷ ws) = apart w ws && distinct ws
 
-else-none : (a : Ans Form) → (a else Miss) ≡ a
-unfolding _else_
-else-none (To j f) = refl
-else-none Miss = refl
-else-none (Hard k p) = refl
-
 as-miss : (k d : ℕ) (a : Rows) (b : Ans Form) → a ≡ Miss → (asEntry k d a else b) ≡ b
 unfolding asEntry _else_
 as-miss k d a b e = rw e
@@ -108,17 +102,17 @@ module _ (c : ℕ → ℕ → Rows) (d : ℕ) (s : List ℕ) (at : ℕ) where
   unfolding word
   forms-none v e [] h p = refl
   forms-none v e ((k, w) ∷ ws) h p =
-      as-miss k d (word w s at and c k) (formsOf ws) (token-off (wordAt w s at) (c k) (clash-word v w s at e (and-left (clash v w) (apart v ws) h) p))
+      as-miss k d (word w s at and c k) (formsOf ws) (token-miss (wordAt w s at) (wordAt w s at) refl (c k) (clash-word v w s at e (and-left (clash v w) (apart v ws) h) p))
       ∙ forms-none v e ws (and-right (clash v w) (apart v ws) h) p
 
   forms-read : (k : ℕ) (w : List ℕ) (ws : Words) (e : ℕ) → distinct ((k, w) ∷ ws) ≡ true → wordAt w s at ≡ Read.To e → formsOf ((k, w) ∷ ws) ≡ asEntry k d (c k e)
   unfolding word
   forms-read k w ws e h p =
-      rw (token-on (wordAt w s at) (c k) e p, forms-none w e ws (and-left (apart w ws) (distinct ws) h) p) (else-none (asEntry k d (c k e)))
+      rw (token-to (wordAt w s at) (wordAt w s at) refl (c k) e p, forms-none w e ws (and-left (apart w ws) (distinct ws) h) p) (else-none (asEntry k d (c k e)))
 
   forms-next : (k : ℕ) (w : List ℕ) (ws : Words) → wordAt w s at ≡ Read.Miss → formsOf ((k, w) ∷ ws) ≡ formsOf ws
   unfolding word
-  forms-next k w ws p = as-miss k d (word w s at and c k) (formsOf ws) (token-off (wordAt w s at) (c k) p)
+  forms-next k w ws p = as-miss k d (word w s at and c k) (formsOf ws) (token-miss (wordAt w s at) (wordAt w s at) refl (c k) p)
 
   forms-on : (ws : Words) (k e : ℕ) → distinct ws ≡ true → firstOf s at ws ≡ Keyword.Read k e → formsOf ws ≡ asEntry k d (c k e)
   unfolding orKeyword

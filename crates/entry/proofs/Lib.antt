@@ -7,7 +7,6 @@ pub mod EntryFew
 pub mod EntryTold
 pub mod EntryLines
 pub mod EntryPlaces
-pub mod TokenJoins
 pub mod KeywordLaws
 pub mod FormLaws
 pub mod UndatedLaws

@@ -24,16 +24,15 @@ use Rattle.text.proofs.StringSame.{string-ahead, string-ends}
 use Rattle.text.proofs.TokenEnds.{tag-reach}
 use Rattle.amount.specs.declared.detail.Detail.{Detail}
 use Rattle.amount.specs.declared.detail.One.{One}
-use Rattle.amount.specs.Details.{Rows, span}
+use Rattle.amount.specs.Details.{Rows, span, quoted}
 use Rattle.amount.specs.Amounts.{hardGap}
 use Rattle.amount.specs.steps.Answers.{oneOf}
-use Rattle.posting.specs.Metadata.{quoted}
 use Rattle.row.specs.declared.writer.Out.{Out}
 use Rattle.row.specs.declared.writer.Ran.{Ran}
 use Rattle.row.specs.Row.{pourAt}
 use Rattle.row.specs.Details.{laid}
-use Rattle.row.specs.steps.Writing.{noted, outs, Did, Room}
-use Rattle.row.proofs.OutLaws.{rows-noted, wrote-one, wrote-then, poured-none}
+use Rattle.row.specs.steps.Writing.{noted, outs, Did}
+use Rattle.row.proofs.OutLaws.{wrote-one, wrote-then, poured-none, noted-room}
 use Rattle.row.proofs.DidLaws.{did-read, did-emit, and-read, and-miss, and-hard}
 use Rattle.row.proofs.TokenLaws.{token-read, token-miss, must-token-read, must-token-miss, must-token-end, must-token-end-miss}
 use Rattle.content.specs.Contents.{hardString}
@@ -42,7 +41,7 @@ use Rattle.entry.specs.Forms.{Form, asEntry, directive, blank, formOf}
 use Rattle.entry.specs.steps.Formed.{formedOf, DidForm}
 use Rattle.entry.specs.steps.Undated.{gapQuoted, optionEnd, optionOf, includeEnd, includeOf, tagOf, blankFormed, poptagForm, pushtagForm, includeForm, optionForm, undated}
 use Rattle.entry.specs.declared.directive.Formed.{Formed}
-use Rattle.entry.proofs.TokenJoins.{no-more, token-on, token-off}
+use Rattle.amount.proofs.OneRows.{more-none, token-to, token-miss as token-off}
 use Rattle.entry.proofs.KeywordLaws.{poptag-on, poptag-off, pushtag-on, pushtag-off, include-on, include-off, option-on, option-off}
 use Rattle.entry.proofs.FormLaws.{form-as, else-read, else-next, else-hard}
 
@@ -51,18 +50,18 @@ use Rattle.entry.proofs.FormLaws.{form-as, else-read, else-next, else-h
 module _ (s : List ℕ) (at : ℕ) (g : Read) (v : g ≡ gapAt s at) where
   pub quoted-none : g ≡ Read.Miss → One.Miss ≡ oneOf (gapQuoted s at)
   unfolding gapQuoted gap oneOf
-  quoted-none h = rw (token-off (gapAt s at) (quoted (span 34) s) (sym v ∙ h))
+  quoted-none h = rw (token-off g (gapAt s at) v (quoted (span 34) s) h)
 
   module _ (j : ℕ) (h : g ≡ Read.To j) (x : Read) (w : x ≡ stringAt s j) where
     pub quoted-read : (e : ℕ) (d : Detail) → x ≡ Read.To e → d ≡ span 34 (j + 1) (e - 1) → One.Read e d ≡ oneOf (gapQuoted s at)
     unfolding gapQuoted gap quoted string oneOf
     quoted-read e d i q =
-        rw (token-on (gapAt s at) (quoted (span 34) s) j (sym v ∙ h), token-on (stringAt s j) (λ e. To e (span 34 (j + 1) (e - 1) ∷ [])) e (sym w ∙ i), q)
+        rw (token-to g (gapAt s at) v (quoted (span 34) s) j h, token-to x (stringAt s j) w (λ e. To e (span 34 (j + 1) (e - 1) ∷ [])) e i, q)
 
     pub quoted-miss : x ≡ Read.Miss → One.Miss ≡ oneOf (gapQuoted s at)
     unfolding gapQuoted gap quoted string oneOf
     quoted-miss i =
-        rw (token-on (gapAt s at) (quoted (span 34) s) j (sym v ∙ h), token-off (stringAt s j) (λ e. To e (span 34 (j + 1) (e - 1) ∷ [])) (sym w ∙ i))
+        rw (token-to g (gapAt s at) v (quoted (span 34) s) j h, token-off x (stringAt s j) w (λ e. To e (span 34 (j + 1) (e - 1) ∷ [])) i)
 
 -- a string has its quotes
 module _ (s : List ℕ) (j e : ℕ) (x : Read) (w : x ≡ stringAt s j) (i : x ≡ Read.To e) where
@@ -84,7 +83,7 @@ module _ (s : List ℕ) (at : ℕ) (f : ℕ → Rows) (b : One) (v : b ≡ oneOf
   quoted-cases P miss read = rw v (on-gap (gapAt s at) refl)
     where
       on-string : (j : ℕ) → gapAt s at ≡ Read.To j → (x : Read) → stringAt s j ≡ x → P (oneOf (gapQuoted s at)) joined
-      on-string j p (Read.To e) q = let y = span 34 (j + 1) (e - 1) in rw (p, q, no-more (more (y ∷ []) (f e))) (read e y)
+      on-string j p (Read.To e) q = let y = span 34 (j + 1) (e - 1) in rw (p, q, more-none (more (y ∷ []) (f e))) (read e y)
       on-string j p Read.Miss q = rw (p, q) miss
 
       on-gap : (x : Read) → gapAt s at ≡ x → P (oneOf (gapQuoted s at)) joined
@@ -130,11 +129,7 @@ module _ (base : ℕ) (x : Detail) (s : List ℕ) (at : ℕ) (o : Out) (t : List
   unfolding optionEnd more
   option-end-hard u k p h = rw (quoted-never s at (lineEnd s) b v k p h) refl
 
--- room for the second row
-pub second-room : (o m : Out) (x : Detail) → m ≡ noted o x → Room 2 o → Room 1 m
-second-room o m x e h = rw (e, rows-noted o x) (omega arith)
-
-pub ruleset option-end-laws = (second-room, option-end, option-open, option-end-miss, option-end-hard)
+pub ruleset option-end-laws = (noted-room, option-end, option-open, option-end-miss, option-end-hard)
 
 -- ---- an option, from after its word on
 

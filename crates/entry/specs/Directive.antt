@@ -6,9 +6,9 @@ use Rattle.text.specs.Bytes.{bytes}
 use Rattle.text.specs.Answer.{To, _and_, must}
 use Rattle.text.specs.Leaves.{gap, word, tag, lineEnd}
 use Rattle.amount.specs.Kinds.{tagKind, stringKind}
-use Rattle.amount.specs.Details.{Rows, span}
+use Rattle.amount.specs.Details.{Rows, span, quoted}
 use Rattle.amount.specs.Amounts.{hardGap}
-use Rattle.posting.specs.Metadata.{quoted, metadata}
+use Rattle.posting.specs.Metadata.{metadata}
 use Rattle.content.specs.Contents.{hardString}
 
 -- ---- Rule 4: a keyword, a gap and a content, both hard, then line end (a plain miss) and metadata

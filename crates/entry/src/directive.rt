@@ -151,12 +151,6 @@ fn dateless_at(s: &[u8], at: usize, date: usize, base: usize, table: &mut [u8], 
     }
 }
 
-fn wide(n: u32) -> usize
-    ensures { λ r. ⌜ r ≡ n ⌝ }
-{
-    n as usize
-}
-
 // Directive: date, gap (hard), and that.
 pub fn directive_at(s: &[u8], base: usize, table: &mut [u8], out: Out) -> Formed
     requires { ⌜ Readable base (now s) 0 out ⌝ }
@@ -167,7 +161,7 @@ pub fn directive_at(s: &[u8], base: usize, table: &mut [u8], out: Out) -> Formed
         Dated::On(e, y) => {
             let g = line::gap(s, e);
             match g {
-                Read::To(j) => dateless_at(s, j, wide(y), base, table, out),
+                Read::To(j) => dateless_at(s, j, date::wide_date(y), base, table, out),
                 Read::Miss => Formed::Hard(4, e),
             }
         }

@@ -12,7 +12,7 @@ use Rattle.decimal.specs.Exact.{wholeOf, twosOf, decimalOf}
 use Rattle.decimal.specs.declared.Decimal.{Decimal}
 use Rattle.decimal.specs.declared.Value.{Value}
 use Rattle.decimal.specs.declared.Value.the-variants.{Known}
-use Rattle.text.specs.Bytes.{isBlank, bytes, isCapital}
+use Rattle.text.specs.Bytes.{isBlank, bytes, isCapital, between}
 use Rattle.text.specs.Run.{blanks}
 use Rattle.text.specs.Answer.{To, Miss, _then_, _and_, must, maybe}
 use Rattle.text.specs.Leaves.{byte, currency, account}
@@ -22,7 +22,6 @@ use Rattle.text.proofs.TestLaws.{differ}
 use Rattle.text.specs.Every.{Every}
 use Rattle.text.proofs.EveryLaws.{every-right}
 use Rattle.amount.specs.Details.{valued}
-use Rattle.amount.specs.Literal.{between}
 use Rattle.amount.specs.Expression.{expression}
 use Rattle.amount.specs.Amounts.{hardGap}
 use Rattle.amount.specs.declared.detail.Detail.{Detail}

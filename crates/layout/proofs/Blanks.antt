@@ -7,16 +7,16 @@ use mathlib.Core.List.{List, [], _∷_, _++_, append-assoc}
 use borrow.Author.Tests.{eqb-true, not-true}
 use lib.Dec.{eqb}
 use lib.ListN.{length, getD, drop, length-append}
-use Rattle.text.specs.Bytes.{inLine, inTag}
+use Rattle.text.specs.Bytes.{inLine, inTag, between}
 use Rattle.text.specs.Run.{runFrom, runTo}
 use Rattle.text.specs.Answer.{Ans, To, Miss}
 use Rattle.text.proofs.TestLaws.{or-left, or-right}
 use Rattle.text.proofs.Ats.{At, at-start, at-next, at-byte}
 use Rattle.text.proofs.Inversions.{not-miss}
 use Rattle.text.specs.Every.{Every}
-use Rattle.amount.specs.Literal.{between}
 use Rattle.amount.specs.declared.detail.Detail.{Detail}
 use Rattle.entry.specs.Forms.{Form, asEntry, directive, blank, formOf}
+use Rattle.text.proofs.InLine.{no-lf}
 use Rattle.layout.specs.Meaning.{Item, texted}
 use Rattle.layout.specs.Written.{headText, closing, printed, noItem}
 use Rattle.layout.specs.Claim.{holdsQuote}
@@ -84,16 +84,12 @@ blank-was s n f h =
 
 -- ---- again
 
-in-line-feed : inLine 10 ≡ false
-unfolding inLine
-in-line-feed = refl
-
 blank-again : (xs v : List ℕ) → All inLine xs → blank ((xs ++ (10 ∷ [])) ++ v) ≡ To (length (xs ++ (10 ∷ []))) (record { kind = 1; date = 0; details = [] })
 unfolding blank asEntry
 blank-again xs v h =
     let t = (xs ++ (10 ∷ [])) ++ v in
     let A : At t 0 (xs ++ (10 ∷ v)) = subst (At t 0) (append-assoc xs (10 ∷ []) v) (at-start t) in
-    rw (run-at t inLine xs (10 ∷ v) 0 A h in-line-feed, at-byte (at-next xs (10 ∷ v) A))
+    rw (run-at t inLine xs (10 ∷ v) 0 A h (no-lf .line), at-byte (at-next xs (10 ∷ v) A))
     (ap (λ z. To z (record { kind = 1; date = 0; details = [] })) {x = 0 + length xs + 1} {y = length (xs ++ (10 ∷ []))} (omega (arith, length-append xs (10 ∷ []))))
 
 after : (x v : List ℕ) → At (x ++ v) (length x) v

@@ -12,14 +12,13 @@ use lib.Seq.{drop-drop}
 use Rattle.decimal.specs.Exact.{twosOf}
 use Rattle.decimal.specs.declared.Value.{Value}
 use Rattle.decimal.specs.declared.Value.the-variants.{Known, Refused}
-use Rattle.text.specs.Bytes.{inTag}
+use Rattle.text.specs.Bytes.{inTag, between}
 use Rattle.text.specs.Permitted.{clean, sizeLimit}
 use Rattle.text.specs.Answer.{To, Miss}
 use Rattle.text.proofs.TestLaws.{and-left, and-right}
 use Rattle.text.proofs.Ats.{At, at-start, at-next, at-place}
 use Rattle.text.specs.Every.{Every}
 use Rattle.amount.specs.Details.{Rows}
-use Rattle.amount.specs.Literal.{between}
 use Rattle.amount.specs.declared.detail.Detail.{Detail}
 use Rattle.row.specs.Row.{rowOf, feeds}
 use Rattle.row.specs.Details.{spanned, valuePlace}
@@ -31,7 +30,7 @@ use Rattle.entry.specs.Entry.{Reads, got, refuse, detailRow, rowsOf, judged, se
 use Rattle.entry.proofs.EntryForms.{entry-form, entry-sound}
 use Rattle.entry.proofs.EntryTold.{form-kind-low}
 use Rattle.ledger.specs.Plain.{Reading, accepted, denied, after, move, moved, readFrom, partAt, plain}
-use Rattle.ledger.proofs.PlainLaws.{read-nil}
+use Rattle.ledger.proofs.PlainLaws.{read-nil, after-accepted}
 use Rattle.layout.specs.Meaning.{Item, texted, naming, itemFor, itemOf, meaning}
 use Rattle.layout.specs.Written.{closing, kindOf, printed, noItem, written}
 use Rattle.layout.specs.Claim.{holdsQuote, quiet, Rewritten, Claim}
@@ -164,10 +163,6 @@ unfolding readFrom
 read-on f a l n [] rs h e = absurd (omega arith)
 read-on f a l n (b ∷ t) rs h e = rw (e, readFrom)
 
-after-inv : (ds : List Row) (x : Reading) (rs : List Row) → after ds x ≡ accepted rs → (ys : List Row) × (x ≡ accepted ys) × (rs ≡ ds ++ ys)
-after-inv ds (accepted ys) rs e = (ys, refl, cc)
-after-inv ds (denied k p) rs e = absurd (let z : _≡_ {A = ℕ} 0 1 = cc in omega arith)
-
 -- what an accepted reading read first
 read-inv : (f a l b : ℕ) (t : List ℕ) (rs : List Row) → readFrom (suc f) a l (b ∷ t) ≡ accepted rs
     → (n : ℕ) × (xs : List Row) × (ys : List Row) × (entryOf (b ∷ t) ≡ got n xs) × (readFrom f (a + n) (l + feeds (take n (b ∷ t))) (drop n (b ∷ t)) ≡ accepted ys) × (rs ≡ moved a l xs ++ ys)
@@ -177,7 +172,7 @@ read-inv f a l b t rs e = go (entryOf (b ∷ t)) refl e
     go : (x : Reads) → entryOf (b ∷ t) ≡ x
         → elim x as (λ _. Reading) [ got n rs ↦ after (moved a l rs) (readFrom f (a + n) (l + feeds (take n (b ∷ t))) (drop n (b ∷ t))) | refuse k p ↦ denied k (a + p) ] ≡ accepted rs
         → (n : ℕ) × (xs : List Row) × (ys : List Row) × (entryOf (b ∷ t) ≡ got n xs) × (readFrom f (a + n) (l + feeds (take n (b ∷ t))) (drop n (b ∷ t)) ≡ accepted ys) × (rs ≡ moved a l xs ++ ys)
-    go (got n xs) p q = let k = after-inv (moved a l xs) _ rs q in (n, xs, k .0, p, k .1, k .2)
+    go (got n xs) p q = let k = after-accepted (moved a l xs) _ rs q in (n, xs, k .0, p, k .1, k .2)
     go (refuse k z) p q = absurd (let y : _≡_ {A = ℕ} 0 1 = cc in omega arith)
 
 at-after : (S s : List ℕ) (a n : ℕ) → At S a s → n ≤ length s → At S (a + n) (drop n s)

@@ -5,7 +5,7 @@ use mathlib.Core.Path.{_≡_, refl, _∙_, ap, subst, sym}
 use mathlib.Core.Bool.{false}
 use mathlib.Core.List.{List, [], _∷_, _++_}
 use lib.ListN.{getD}
-use Rattle.text.specs.Answer.{_else_, Ans, Hard, To, Miss, _and_}
+use Rattle.text.specs.Answer.{_else_, To, Miss, _and_}
 use Rattle.text.specs.Bytes.{isBlank, bytes}
 use Rattle.text.specs.Leaves.{word, lineEnd}
 use Rattle.text.specs.Words.{startsWith}
@@ -20,13 +20,14 @@ use Rattle.posting.specs.Postings.{flag, isFlag}
 use Rattle.content.specs.Contents.{hardAccount, padOf, eventOf, balanceOf, openOf}
 use Rattle.transaction.specs.Transaction.{opening, transaction}
 use Rattle.entry.specs.Directive.{keyword}
-use Rattle.entry.specs.Forms.{Form as Entry, asEntry, dateless, directive, formOf}
+use Rattle.entry.specs.Forms.{asEntry, dateless, directive, formOf}
 use Rattle.layout.specs.Meaning.{Item}
 use Rattle.layout.specs.Written.{dateText}
 use Rattle.layout.proofs.Texts.{Tidy}
 use Rattle.text.proofs.DayLaws.{Day}
 use Rattle.text.specs.Every.{Every}
 use Rattle.text.proofs.EveryLaws.{every-left, every-right}
+use Rattle.text.proofs.Joins.{else-none}
 use Rattle.layout.proofs.Days.{date-reads}
 use Rattle.layout.proofs.Readings.{items, items-append, Fine, Reads, skip-reads, and-reads, There}
 use Rattle.layout.proofs.Marks.{reached, word-reads, word-misses, line-reads}
@@ -109,12 +110,6 @@ unfoldable pub keywords : List Choice
 keywords =
     keyed 7 "price" priceOf ∷ keyed 8 "balance" balanceOf ∷ keyed 9 "open" openOf ∷ keyed 10 "close" hardAccount ∷ keyed 11 "pad" padOf
     ∷ keyed 12 "commodity" hardCurrency ∷ keyed 13 "event" eventOf ∷ []
-
-else-none : (a : Ans Entry) → (a else Miss) ≡ a
-unfolding _else_
-else-none (To n f) = refl
-else-none Miss = refl
-else-none (Hard k p) = refl
 
 pub dateless-tried : (p : ℕ) (s : List ℕ) (g : ℕ) → dateless p s g ≡ (asEntry 6 p (transaction s g) else tried p s g keywords Miss)
 unfolding dateless tried keywords

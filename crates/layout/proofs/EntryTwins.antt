@@ -23,6 +23,7 @@ use Rattle.content.proofs.ContentAlike.{balance-of-alike, hard-account-alike, p
 use Rattle.transaction.specs.Transaction.{opening, texts, mark, marks, transaction}
 use Rattle.entry.specs.Directive.{keyword, option, include, tagged}
 use Rattle.entry.specs.Forms.{dateless, directive}
+use Rattle.transaction.proofs.TransactionAgree.{txn-lf}
 use Rattle.layout.proofs.Misses.{no-miss, first-misses, blank-line, else-miss, no-maybe, no-must, to-miss}
 use Rattle.layout.proofs.Choices.{Choice, tried}
 use Rattle.layout.proofs.Directives.{dateless-tried, keywords}
@@ -38,10 +39,6 @@ rest-misses s i e =
     first-misses (opening s i) _ (λ a m. no-maybe a _ (first-misses (maybe a (texts s a)) _
     (λ b m. no-miss (mark s) _ b (first-misses (many (mark s) (suc (length s)) b) _ (λ c m. no-must c _ (first-misses (must c (lineEnd s c)) _ (λ d m.
     no-miss (metaStep s) _ d (first-misses (many (metaStep s) (suc (length s)) d) _ (λ k m. no-miss (bodyStep s) _ k m) m)) m)) m)) m)) e
-
-txn-lf : hasLF (bytes "txn") ≡ false
-unfolding hasLF bytes
-txn-lf = refl
 
 -- words of a list, in two texts
 tried-follow : (p q : ℕ) (s z : List ℕ) (i j : ℕ) (cs : List Choice) → Every (λ c. Follow (c .reads s i) (c .reads z j)) cs → Follow (tried p s i cs Miss) (tried q z j cs Miss)

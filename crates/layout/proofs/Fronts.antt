@@ -1,7 +1,7 @@
 -- Where the output goes on with an entry's own word, or ends, no line of the entry before goes on.
 use Prim.Native.Nat.{ℕ, _<_}
 use native.Mathlib.Omega.{arith}
-use mathlib.Core.Bool.{_&&_, not, false, true, Bool, cond, _||_, or-true}
+use mathlib.Core.Bool.{_&&_, not, false, true, Bool, cond, _||_, or-true, and-false}
 use mathlib.Core.Path.{_≡_, refl}
 use mathlib.Core.List.{List, []}
 use borrow.Author.Tests.{lt-leb, leb-true, ne-eqb, ltb-true}
@@ -93,10 +93,6 @@ unfolding inTag
 small-tag b e = rw (e, or-true (isCapital b))
 
 -- a small letter is no digit and no flag
-
-and-false : (x : Bool) → (x && false) ≡ false
-and-false true = refl
-and-false false = refl
 
 pub small-digit : (b : ℕ) → isSmall b ≡ true → isDigit b ≡ false
 unfolding isSmall isDigit

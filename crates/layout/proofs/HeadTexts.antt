@@ -11,7 +11,7 @@ use Rattle.text.specs.Leaves.{gap, string}
 use Rattle.text.proofs.Ats.{At}
 use Rattle.text.proofs.Inversions.{and-inv, else-inv, to-inv}
 use Rattle.amount.specs.Details.{Rows, span}
-use Rattle.amount.specs.Literal.{between}
+use Rattle.text.specs.Bytes.{between}
 use Rattle.amount.specs.declared.detail.Detail.{Detail}
 use Rattle.row.specs.Details.{spanned}
 use Rattle.transaction.specs.Transaction.{texts}

@@ -9,7 +9,7 @@ use mathlib.Core.Logic.{_⊎_, inl, inr}
 use borrow.Author.Tests.{eq-eqb, eqb-true}
 use lib.Dec.{eqb}
 use lib.ListN.{length, getD, drop}
-use Rattle.text.specs.Bytes.{isBlank, bytes, isSmall}
+use Rattle.text.specs.Bytes.{isBlank, bytes, isSmall, between}
 use Rattle.text.specs.Answer.{To, Miss, _and_, must, maybe, many}
 use Rattle.text.specs.Leaves.{word, lineEnd}
 use Rattle.text.specs.Permitted.{permitted}
@@ -20,7 +20,6 @@ use Rattle.text.proofs.TokenEnds.{line-reach}
 use Rattle.text.specs.Every.{Every}
 use Rattle.text.proofs.EveryLaws.{every-left, every-right}
 use Rattle.amount.specs.Details.{Rows, span}
-use Rattle.amount.specs.Literal.{between}
 use Rattle.amount.specs.declared.detail.Detail.{Detail}
 use Rattle.row.specs.Details.{spanned}
 use Rattle.posting.specs.Metadata.{metaStep, metadata}

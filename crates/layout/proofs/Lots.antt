@@ -13,13 +13,14 @@ use Rattle.decimal.specs.declared.Form.the-variants.{Rounding}
 use Rattle.decimal.specs.declared.Value.{Value}
 use Rattle.text.specs.Bytes.{isBlank, bytes, isDigit, isSpace}
 use Rattle.text.specs.Run.{blanks}
-use Rattle.text.specs.Answer.{Ans, To, Miss, _then_, _and_, _else_, more}
-use Rattle.text.specs.Leaves.{byte, date, dated}
+use Rattle.text.specs.Answer.{Ans, To, Miss, _then_, _and_, _else_}
+use Rattle.text.specs.Leaves.{token, byte, date, dated, comma}
+use Rattle.text.specs.Lines.{commaAt}
 use Rattle.text.specs.Dates.{likeShape, dateShape, asShape, dateAt}
 use Rattle.text.proofs.Ats.{At, at-next, at-one, at-byte, at-more, at-drop}
 use Rattle.text.proofs.Inversions.{and-inv, then-inv, else-inv, to-inv}
 use Rattle.text.proofs.TestLaws.{differ}
-use Rattle.text.proofs.TokenEnds.{date-reach, byte-reach, run-reach}
+use Rattle.text.proofs.TokenEnds.{date-reach, byte-reach, run-reach, comma-reach}
 use Rattle.amount.specs.Details.{named}
 use Rattle.amount.specs.Literal.{inLiteral, number, places, plain, literalAs, unsigned, literal}
 use Rattle.amount.specs.Expression.{expression, Arithmetic, combined, isPlus, isTimes, goesOn, chain, products, sums, negation, inGroup, group, groups, within, expressionIn}
@@ -28,20 +29,20 @@ use Rattle.amount.specs.declared.detail.Detail.{Detail}
 use Rattle.amount.proofs.LoneLiteral.{lone-product}
 use Rattle.amount.proofs.ExpressionEnds.{goes-off}
 use Rattle.row.specs.Details.{spanned, millionths}
-use Rattle.posting.specs.Costs.{comma, Lot, lot, inside, cost}
-use Rattle.posting.proofs.PostingEnds.{comma-reach, cost-reach}
+use Rattle.posting.specs.Costs.{Lot, lot, inside, cost}
+use Rattle.posting.proofs.PostingEnds.{cost-reach}
 use Rattle.layout.specs.Meaning.{Item, texted, naming}
 use Rattle.layout.specs.Written.{sizeText, valueText, sumText, amountText, detailText, kindOf, printed, digit, dateText, braceEnd}
 use Rattle.layout.proofs.Texts.{at-text}
 use Rattle.layout.proofs.Numbers.{All, digit-is, count-digits, count-points, digit-literal, all-part, size-literal}
-use Rattle.layout.proofs.Values.{Form, digit-blank, run-at, stops-at, Dull, no-expression, digit-minus, digit-space, one-space, shown}
+use Rattle.layout.proofs.Values.{Form, digit-blank, run-at, stops-at, Dull, no-expression, digit-minus, digit-space}
 use Rattle.text.proofs.DayLaws.{Day, date-there}
 use Rattle.text.specs.Every.{Every}
 use Rattle.layout.proofs.Days.{date-reads}
 use Rattle.layout.proofs.Tokens.{Currency}
 use Rattle.layout.proofs.Neats.{Neat, neat-none, neat-join, neat-cons, neat-space, free-range, neat-value, neat-currency, neat-date}
 use Rattle.layout.proofs.Readings.{itemD, items, Fine, Reads, skip-reads, then-reads, There}
-use Rattle.layout.proofs.Marks.{reached, byte-reads, gap-misses, after-comma, after-brace, brace-dull}
+use Rattle.layout.proofs.Marks.{reached, byte-reads, gap-misses, after-comma, after-brace, brace-dull, comma-is}
 use Rattle.layout.proofs.Parts.{IsSum, sumItem, amount-kind, amount-was, amount-is}
 use Rattle.layout.proofs.Bodies.{print-detail, value-blank}
 use Rattle.layout.proofs.Balances.{byte-empty}
@@ -224,7 +225,7 @@ module _ (s : List ℕ) (i e : ℕ) (t : List ℕ) (l : Lot) (A : At s i t) (f :
   sum-date : (p : ℕ) (rs : List Detail) → l ≡ lot p rs → IsSum 26 (items s rs) → Day p → Goal
   sum-date p rs q S D = subst (λ z. Lotted (z .when) (items s (z .rows))) (sym q) (subst (Lotted p) (sym (S .4)) (both (S .0) (S .1) p (S .2) (S .3) D))
 
-  alt-one : (amount 26 s i then λ a rs. comma s a then λ b _. date s b then λ c d. To c (lot d rs)) ≡ To e l → Goal
+  alt-one : (amount 26 s i then λ a rs. comma {A = Detail} s a then λ b _. date s b then λ c d. To c (lot d rs)) ≡ To e l → Goal
   alt-one h =
       let a = then-inv (amount 26 s i) _ e l h in
       let b = then-inv (comma s (a .0)) _ e l (a .3) in
@@ -232,7 +233,7 @@ module _ (s : List ℕ) (i e : ℕ) (t : List ℕ) (l : Lot) (A : At s i t) (f :
       let q = lot-inv (c .0) (c .1) (a .1) (c .3) in
       sum-date (c .1) (a .1) q (amount-was 26 amount-kind A (a .2) (subst (λ z. Every Fine (z .rows)) q f) .is) (date-there s (b .0) (c .0) (c .1) (c .2) .0)
 
-  alt-two : (date s i then λ a d. comma s a then λ b _. amount 26 s b then λ c rs. To c (lot d rs)) ≡ To e l → Goal
+  alt-two : (date s i then λ a d. comma {A = Detail} s a then λ b _. amount 26 s b then λ c rs. To c (lot d rs)) ≡ To e l → Goal
   alt-two h =
       let a = then-inv (date s i) _ e l h in
       let b = then-inv (comma s (a .0)) _ e l (a .3) in
@@ -315,14 +316,9 @@ pub record Inside (s : List ℕ) (i p : ℕ) (ns : List Item) (post : List ℕ) 
   pub same : items s rows ≡ ns
   pub fine : Every Fine rows
 
-comma-misses : {s : List ℕ} {i : ℕ} {t : List ℕ} → At s i (125 ∷ t) → comma s i ≡ Miss
-unfolding comma byte _and_
+comma-misses : {s : List ℕ} {i : ℕ} {t : List ℕ} → At s i (125 ∷ t) → comma {A = Detail} s i ≡ Miss
+unfolding comma commaAt token
 comma-misses {s} {i} {t} A = rw (byte-there (brace-calm .2) A)
-
-comma-is : {s : List ℕ} {i : ℕ} (t : List ℕ) → isBlank (getD t 0 0) ≡ false → At s i (44 ∷ 32 ∷ t) → (j : ℕ) × (comma s i ≡ To j []) × At s j t
-unfolding comma byte _and_ more
-comma-is {s} {i} t e A =
-    (i + 1 + 1, rw (stops-at s isBlank i (44 ∷ 32 ∷ t) A (shown 44 (omega arith)), at-byte A, one-space s (i + 1) (at-one A) e), at-one (at-one A))
 
 brace-digit : isDigit 125 ≡ false
 unfolding isDigit

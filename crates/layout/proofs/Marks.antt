@@ -1,4 +1,4 @@
--- Gaps, line ends, single bytes and words where they are written, and what may follow a token.
+-- Gaps, commas, line ends, single bytes and words where they are written, and what may follow a token.
 use Prim.Native.Nat.{ℕ, _+_}
 use native.Mathlib.Omega.{arith}
 use mathlib.Core.Path.{_≡_, refl, subst}
@@ -9,10 +9,10 @@ use lib.Dec.{eqb, leb}
 use lib.ListN.{length, getD, drop}
 use Rattle.text.specs.Strings.{stringAt}
 use Rattle.text.specs.Bytes.{isBlank, isSpace, isDigit, isCapital, isSmall, startsPart, inAccount, inCurrency, inTag, inLink}
-use Rattle.text.specs.Lines.{gapAt, commentEnd, eolAt, lineEndAt}
+use Rattle.text.specs.Lines.{gapAt, commaAt, commentEnd, eolAt, lineEndAt}
 use Rattle.text.specs.Words.{startsWith, wordAt}
 use Rattle.text.specs.Answer.{Ans, To, Miss}
-use Rattle.text.specs.Leaves.{token, gap, lineEnd, string, byte, word}
+use Rattle.text.specs.Leaves.{token, gap, comma, lineEnd, string, byte, word}
 use Rattle.text.proofs.TestLaws.{differ, and-left}
 use Rattle.text.proofs.Joins.{Reach}
 use Rattle.text.proofs.Ats.{At, at-next, at-one, at-byte, at-drop}
@@ -21,7 +21,7 @@ use Rattle.amount.specs.Expression.{isPlus, isTimes}
 use Rattle.amount.specs.declared.detail.Detail.{Detail}
 use Rattle.layout.specs.Written.{sizeText, valueText}
 use Rattle.layout.proofs.Numbers.{size-head}
-use Rattle.layout.proofs.Values.{stops-at, afterBlanks, Calm, Dull, Form, one-space}
+use Rattle.layout.proofs.Values.{stops-at, afterBlanks, Calm, Dull, Form, one-space, shown}
 use Rattle.layout.proofs.Tokens.{Currency, Account}
 use Rattle.layout.proofs.Readings.{Reads, none-reads, token-reads}
 
@@ -161,6 +161,11 @@ currency-dull w t C = rw (C .is) (capital-dull (C .head) (C .capital))
 pub brace-dull : Dull 125
 unfolding isSpace inLiteral isDigit
 brace-dull = record { minus = refl; paren = λ e. absurd (omega arith); space = refl; literal = refl }
+
+pub comma-is : {s : List ℕ} {i : ℕ} (t : List ℕ) → isBlank (getD t 0 0) ≡ false → At s i (44 ∷ 32 ∷ t) → (j : ℕ) × (comma {A = Detail} s i ≡ To j []) × At s j t
+unfolding comma commaAt token
+comma-is {s} {i} t e A =
+    (i + 1 + 1, rw (stops-at s isBlank i (44 ∷ 32 ∷ t) A (shown 44 (omega arith)), at-byte A, one-space s (i + 1) (at-one A) e), at-one (at-one A))
 
 pub string-misses : {s : List ℕ} {i : ℕ} {t : List ℕ} → eqb (getD t 0 0) 34 ≡ false → At s i t → string {A = Detail} s i ≡ Miss
 unfolding string stringAt token

@@ -12,22 +12,21 @@ use Rattle.decimal.specs.Exact.{wholeOf, twosOf, decimalOf}
 use Rattle.decimal.specs.declared.Decimal.{Decimal}
 use Rattle.decimal.specs.declared.Value.{Value}
 use Rattle.decimal.specs.declared.Value.the-variants.{Known}
-use Rattle.text.specs.Bytes.{isBlank, isSmall, isDigit, inTag, isCapital}
+use Rattle.text.specs.Bytes.{isBlank, isSmall, isDigit, inTag, isCapital, between}
 use Rattle.text.specs.Answer.{To, Miss, _then_, _and_, _else_}
 use Rattle.text.specs.Leaves.{gap, byte, currency, string, lineEnd, emptyLine}
 use Rattle.text.specs.Lines.{gapAt}
-use Rattle.text.proofs.Ats.{At, at-next, at-one, at-place}
+use Rattle.text.proofs.Ats.{At, at-next, at-one, at-place, at-in}
 use Rattle.text.proofs.Inversions.{and-inv, then-inv, token-inv, else-inv, to-inv}
 use Rattle.text.proofs.TestLaws.{differ}
 use Rattle.text.proofs.TokenEnds.{line-reach, empty-reach, byte-reach}
 use Rattle.text.specs.Every.{Every}
-use Rattle.amount.specs.Details.{valued, named}
-use Rattle.amount.specs.Literal.{between}
+use Rattle.amount.specs.Details.{valued, named, quoted}
 use Rattle.amount.specs.Expression.{expression}
 use Rattle.amount.specs.declared.detail.Detail.{Detail}
 use Rattle.amount.proofs.ExpressionEnds.{expression-reach}
 use Rattle.row.specs.Details.{spanned, millionths}
-use Rattle.posting.specs.Metadata.{quoted, keyAt, key, value, metaLine, metaStep, metadata}
+use Rattle.posting.specs.Metadata.{keyAt, key, value, metaLine, metaStep, metadata}
 use Rattle.posting.proofs.PostingEnds.{meta-step-reach, value-reach}
 use Rattle.layout.specs.Meaning.{Item, texted, naming}
 use Rattle.layout.specs.Written.{valueText, quotes, detailText, kindOf, printed, metaText}
@@ -150,9 +149,6 @@ line-empty s i j rs h = token-inv _ j rs h .1
 empty-empty : (s : List ℕ) (i j : ℕ) (rs : List Detail) → emptyLine s i ≡ To j rs → rs ≡ []
 unfolding emptyLine
 empty-empty s i j rs h = token-inv _ j rs h .1
-
-at-in : {s : List ℕ} {i : ℕ} {t : List ℕ} → At s i t → i ≤ length s
-at-in A = omega (arith, A .fits)
 
 meta-line-was : Was metaLine OneMeta
 unfolding metaLine

@@ -1,7 +1,7 @@
 -- A size in digits writes that many millionths.
 use Prim.Native.Nat.{ℕ, zero, suc, _+_, _-_, _*_, _/_, _%_, _^_, _≤_, _<_}
 use native.Mathlib.Omega.{arith}
-use native.Mathlib.Nat.{mul-assoc, mul-comm, pow-suc, pow-le-pow-right, mul-div-cancel, mul-mod-left, mul-le-mul-right}
+use native.Mathlib.Nat.{mul-assoc, mul-comm, pow-suc, mul-div-cancel, mul-mod-left, mul-le-mul-right}
 use mathlib.Core.Path.{_≡_, refl, sym, _∙_, ap}
 use mathlib.Core.Bool.{Bool, true, false, cond}
 use mathlib.Core.List.{List, [], _∷_, _++_}
@@ -13,6 +13,7 @@ use Rattle.decimal.specs.declared.Value.the-variants.{Known}
 use Rattle.text.specs.Bytes.{isDigit}
 use Rattle.text.proofs.TestLaws.{differ, and-left, and-right}
 use Rattle.amount.specs.Literal.{inLiteral, count, isPoint, number, places, plain}
+use Rattle.amount.proofs.Digits.{ten-pos}
 use Rattle.layout.specs.Written.{digit, wholeText, zeros, trimmed, six, fractionText, sizeText}
 
 -- every byte passes a test
@@ -278,9 +279,6 @@ size-plain n =
     (rw (le-leb 1 (length a + count isDigit b) (omega arith), le-leb (0 + count isPoint b) 1 (omega (arith, fraction-points (n % 1000000)))))
 
 -- ---- the exact value
-
-ten-pos : (k : ℕ) → 0 < 10 ^ k
-ten-pos k = pow-le-pow-right {n = 10} (omega arith) {i = 0} {j = k} (omega arith)
 
 exact-whole : (m : Bool) (n d : ℕ) → n ≤ limit → 0 < d → exact m (n * d) d ≡ Known (decimalOf m n)
 unfolding exact

@@ -6,37 +6,33 @@ use mathlib.Core.Bool.{Bool, true, false, cond}
 use mathlib.Core.List.{List, [], _∷_, _++_, append-assoc}
 use lib.Dec.{eqb, ltb}
 use lib.ListN.{length, getD, length-append}
-use Rattle.text.specs.Bytes.{isBlank, bytes, isCapital}
+use Rattle.text.specs.Bytes.{isBlank, bytes, isCapital, between}
 use Rattle.text.specs.Run.{blanks}
 use Rattle.text.specs.Answer.{To, Miss, _and_, more, maybe, many}
-use Rattle.text.specs.Leaves.{gap, byte, currency, token}
+use Rattle.text.specs.Leaves.{gap, currency, token, comma}
 use Rattle.text.specs.Currencies.{currencyAt}
-use Rattle.text.specs.Lines.{gapAt}
-use Rattle.text.proofs.Ats.{At, at-one}
-use Rattle.text.proofs.Inversions.{and-inv, to-inv}
+use Rattle.text.specs.Lines.{gapAt, commaAt}
+use Rattle.text.proofs.Ats.{At}
+use Rattle.text.proofs.Inversions.{and-inv, token-inv}
 use Rattle.text.specs.Every.{Every}
 use Rattle.text.proofs.EveryLaws.{every-left, every-right}
-use Rattle.amount.specs.Details.{Rows, span}
-use Rattle.amount.specs.Literal.{between}
+use Rattle.amount.specs.Details.{Rows, span, quoted}
 use Rattle.amount.specs.declared.detail.Detail.{Detail}
 use Rattle.row.specs.Details.{spanned}
-use Rattle.posting.specs.Metadata.{quoted}
-use Rattle.posting.specs.Costs.{comma}
-use Rattle.posting.proofs.PostingEnds.{comma-reach}
+use Rattle.text.proofs.TokenEnds.{comma-reach}
 use Rattle.content.specs.Contents.{hardAccount, oneCurrency, further, currencies, booking, openOf}
 use Rattle.content.proofs.ContentEnds.{further-reach}
 use Rattle.layout.specs.Meaning.{Item, texted}
 use Rattle.layout.specs.Written.{quotes, detailText, printed}
 use Rattle.layout.proofs.Texts.{Tidy}
-use Rattle.layout.proofs.Values.{stops-at, past-blanks, afterBlanks, line-blank, one-space, shown}
+use Rattle.layout.proofs.Values.{past-blanks, afterBlanks, line-blank}
 use Rattle.layout.proofs.Tokens.{Currency, Account}
 use Rattle.layout.proofs.Neats.{Phrase, Neat, neat-none, neat-join, neat-cons, neat-space, free-range, neat-account, neat-currency, neat-quotes}
 use Rattle.layout.proofs.Readings.{items, items-append, Fine, textItem, Reads, skip-reads, and-reads, maybe-reads, maybe-none, There, none-reads, Loop, done, turn, loop-reads}
 use Rattle.layout.proofs.Readings.{TextKind, there-map}
-use Rattle.layout.proofs.Marks.{After, after-space, after-line, currency-blank, account-blank, reached, byte-reads, gap-reads, gap-misses, after-comma}
+use Rattle.layout.proofs.Marks.{After, after-space, after-line, currency-blank, account-blank, reached, gap-reads, gap-misses, after-comma, comma-is}
 use Rattle.layout.proofs.Parts.{IsText, hard-account-was, hard-account-is, quoted-was, quoted-is, currency-was, currency-is, currency-kind, text-row, one-span, maybe-gap-was}
 use Rattle.layout.proofs.Bodies.{Again, Anew, Was, again-is, print-detail, print-account, quote-blank}
-use Rattle.layout.proofs.Balances.{byte-empty}
 use Rattle.layout.proofs.Loops.{many-was}
 
 -- ---- one currency
@@ -78,10 +74,7 @@ coinsText (more-coins w C N) = 44 ∷ 32 ∷ (w ++ coinsText N)
 
 comma-empty : (s : List ℕ) (i j : ℕ) (rs : List Detail) → comma s i ≡ To j rs → rs ≡ []
 unfolding comma
-comma-empty s i j rs h =
-    let a = and-inv (byte 44 s (blanks s i)) _ j rs h in
-    let c = to-inv (blanks s (a .0)) j [] (a .2) (a .4) in
-    a .5 ∙ ap (λ z. z ++ a .2) (byte-empty 44 s (blanks s i) (a .0) (a .1) (a .3)) ∙ c .1
+comma-empty s i j rs h = token-inv (commaAt s i) j rs h .1
 
 further-was : (s : List ℕ) → Tidy s → (i j : ℕ) (t : List ℕ) (rs : List Detail) → Unit {0} → At s i t → further s i ≡ To j rs → Every Fine rs → There s j rs (IsText Currency 31) × Unit {0}
 unfolding further
@@ -102,13 +95,12 @@ pub record Off (t : List ℕ) : Type 0 where
   pub capital : isCapital (afterBlanks t) ≡ false
 
 further-is : {s : List ℕ} {i : ℕ} (w post : List ℕ) → Currency w → After post → At s i (44 ∷ 32 ∷ (w ++ post)) → Reads s (further s i) (textItem 31 w ∷ []) post
-unfolding further comma
+unfolding further
 further-is {s} {i} w post C F A =
-    let r = stops-at s isBlank i (44 ∷ 32 ∷ (w ++ post)) A (shown 44 (omega arith)) in
-    rw r (skip-reads (skip-reads (byte-reads A) (λ j B. none-reads (ap (λ z. To z []) (one-space s j B (currency-blank w post C))) (at-one B))) (λ k D. one-currency-is w post C F D))
+    let c = comma-is (w ++ post) (currency-blank w post C) A in skip-reads (none-reads (c .1) (c .2)) (λ k D. one-currency-is w post C F D)
 
 further-misses : {s : List ℕ} {i : ℕ} (t : List ℕ) → Off t → At s i t → further s i ≡ Miss
-unfolding further comma byte _and_
+unfolding further comma commaAt token _and_
 further-misses {s} {i} t O A = rw (past-blanks s t i A, O .comma)
 
 coins-after : {ms : List Item} (N : Coins ms) (post : List ℕ) → After post → After (coinsText N ++ post)

@@ -9,7 +9,7 @@ use Rattle.decimal.specs.Exact.{wholeOf, decimalOf, twosOf}
 use Rattle.decimal.specs.declared.Decimal.{Decimal}
 use Rattle.decimal.specs.declared.Value.{Value}
 use Rattle.decimal.specs.declared.Value.the-variants.{Known}
-use Rattle.text.specs.Bytes.{isBlank}
+use Rattle.text.specs.Bytes.{isBlank, between}
 use Rattle.text.specs.Accounts.{accountAt}
 use Rattle.text.specs.Lines.{gapAt}
 use Rattle.text.specs.Strings.{stringAt}
@@ -20,15 +20,13 @@ use Rattle.text.proofs.TokenEnds.{gap-reach}
 use Rattle.text.proofs.Ats.{At, at-next, at-one, at-more, at-place, at-in}
 use Rattle.text.proofs.Inversions.{and-inv, must-inv, then-inv, token-inv, to-inv, named-inv}
 use Rattle.text.specs.Every.{Every}
-use Rattle.amount.specs.Details.{span, valued, Rows}
-use Rattle.amount.specs.Literal.{between}
+use Rattle.amount.specs.Details.{span, valued, Rows, quoted}
 use Rattle.amount.specs.Expression.{expression}
 use Rattle.amount.specs.Amounts.{amount, hardGap, hardCurrency, hardAmount}
 use Rattle.amount.specs.declared.detail.Detail.{Detail}
 use Rattle.amount.proofs.ExpressionEnds.{expression-reach}
 use Rattle.amount.proofs.ValueSizes.{Smalls, expression-small}
 use Rattle.row.specs.Details.{spanned, millionths}
-use Rattle.posting.specs.Metadata.{quoted}
 use Rattle.content.specs.Contents.{hardAccount}
 use Rattle.layout.specs.Meaning.{Item, texted, naming}
 use Rattle.layout.specs.Written.{valueText, quotes}

@@ -6,11 +6,11 @@ use mathlib.Core.Path.{_≡_, refl, sym, _∙_, ap, subst}
 use mathlib.Core.Bool.{Bool, true, false, cond, _||_, _&&_, not, false≢true}
 use mathlib.Core.List.{List, [], _∷_, _++_, append-assoc, append-nil}
 use mathlib.Core.Logic.{_⊎_, inl, inr}
-use borrow.Author.Tests.{ne-eqb, eqb-true, lt-ltb, le-ltb, lt-leb, le-leb, leb-true, ltb-true, not-true}
+use borrow.Author.Tests.{ne-eqb, eqb-true, lt-ltb, le-ltb, lt-leb, le-leb, leb-true, ltb-true}
 use lib.Dec.{eqb, ltb, leb}
 use lib.ListN.{length, getD, drop, length-append}
 use Rattle.decimal.specs.Exact.{twosOf}
-use Rattle.text.specs.Bytes.{isBlank, isSmall, isCapital, isDigit, startsPart, inAccount, inComment}
+use Rattle.text.specs.Bytes.{isBlank, isSmall, isCapital, isDigit, startsPart, inAccount, inComment, between}
 use Rattle.text.specs.Run.{blanks, runTo}
 use Rattle.text.specs.Answer.{Ans, To, Miss, _then_, _and_, _else_, more, maybe}
 use Rattle.text.specs.Leaves.{gap, token, account, lineEnd, emptyLine}
@@ -19,18 +19,18 @@ use Rattle.text.specs.Permitted.{permitted}
 use Rattle.text.specs.declared.Read.{Read}
 use Rattle.text.proofs.Ats.{At, at-next, at-one, at-byte, at-drop}
 use Rattle.text.proofs.Inversions.{and-inv, then-inv, token-inv, else-inv, to-inv, not-miss}
-use Rattle.text.proofs.TestLaws.{differ, absurd-bool, and-right}
+use Rattle.text.proofs.TestLaws.{differ, absurd-bool}
 use Rattle.text.proofs.Steps.{run-out, run-first, such-within, head-drop, getD-past, drop-step}
 use Rattle.text.proofs.TokenEnds.{line-reach}
 use Rattle.text.specs.Every.{Every}
 use Rattle.text.proofs.EveryLaws.{every-left, every-right}
 use Rattle.amount.specs.Details.{Rows, named}
-use Rattle.amount.specs.Literal.{between}
 use Rattle.amount.specs.declared.detail.Detail.{Detail}
 use Rattle.row.specs.Details.{spanned, millionths}
 use Rattle.posting.specs.Metadata.{keyAt, key, metaLine, metaStep}
 use Rattle.posting.specs.Postings.{isFlag, flag, postingFlag, units, postingLine, posting, bodyStep, body}
 use Rattle.posting.proofs.PostingEnds.{posting-flag-reach, body-step-reach}
+use Rattle.posting.proofs.FlagLaws.{flag-not-small}
 use Rattle.layout.specs.Meaning.{Item, texted, naming}
 use Rattle.layout.specs.Written.{detailText, kindOf, printed, postingText}
 use Rattle.layout.proofs.Texts.{at-between, Tidy}
@@ -315,10 +315,6 @@ module _ {s : List ℕ} {i : ℕ} (c : ℕ) (t : List ℕ) (S : Sharp c) (n : is
   unfolding metaStep _else_
   indented-stop = rw (no-meta-line) no-empty-line
 
-small-not : (f : ℕ) → isFlag f ≡ true → isSmall f ≡ false
-unfolding isFlag
-small-not f e = not-true (isSmall f) (and-right (not (eqb f 0)) (not (isSmall f)) e)
-
 part-sharp : (b : ℕ) → startsPart b ≡ true → Sharp b
 unfolding startsPart isCapital isDigit isBlank
 part-sharp b e = record {
@@ -333,7 +329,7 @@ unfolding lineText flagText
 line-stop unflagged w C U t s j A =
     let A′ = subst (λ z. At s j (32 ∷ 32 ∷ ((z ++ unitsText U) ++ t))) (C .is) A in
     indented-stop (C .head) _ (part-sharp (C .head) (C .starts)) (part-small (C .head) (C .starts)) A′
-line-stop (flagged f p S R) w C U t s j A = indented-stop f _ S (small-not f p) (subst (λ z. At s j (32 ∷ 32 ∷ ((cond z [] (f ∷ 32 ∷ []) ++ (w ++ unitsText U)) ++ t))) (flag-some f p) A)
+line-stop (flagged f p S R) w C U t s j A = indented-stop f _ S (flag-not-small f p) (subst (λ z. At s j (32 ∷ 32 ∷ ((cond z [] (f ∷ 32 ∷ []) ++ (w ++ unitsText U)) ++ t))) (flag-some f p) A)
 
 -- ---- all of them
 

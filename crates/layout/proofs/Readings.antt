@@ -17,7 +17,7 @@ use Rattle.text.proofs.Inversions.{maybe-inv}
 use Rattle.text.specs.Every.{Every}
 use Rattle.text.proofs.EveryLaws.{every-append}
 use Rattle.amount.specs.Details.{Rows, span}
-use Rattle.amount.specs.Literal.{between}
+use Rattle.text.specs.Bytes.{between}
 use Rattle.amount.specs.declared.detail.Detail.{Detail}
 use Rattle.row.specs.Details.{spanned, millionths}
 use Rattle.layout.specs.Meaning.{Item, texted, naming, itemFor}

@@ -8,7 +8,7 @@ use lib.ListN.{drop}
 use Rattle.text.specs.Answer.{To, Miss}
 use Rattle.text.proofs.Inversions.{else-inv}
 use Rattle.text.specs.Every.{Every}
-use Rattle.amount.specs.Literal.{between}
+use Rattle.text.specs.Bytes.{between}
 use Rattle.entry.specs.Forms.{Form, directive, blank, formOf}
 use Rattle.layout.specs.Claim.{holdsQuote, Claim}
 use Rattle.layout.proofs.Texts.{Tidy}

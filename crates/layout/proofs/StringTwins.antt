@@ -12,7 +12,8 @@ use Rattle.text.proofs.Alike.{both-miss, both-to, and-alike, else-alike, maybe-
 use Rattle.text.proofs.SharedLines.{byte-alike, byte-same, empty-alike, gap-alike, gap-at, line-alike, told}
 use Rattle.amount.specs.declared.detail.Detail.{Detail}
 use Rattle.amount.proofs.AmountLaws.{hard-gap-alike}
-use Rattle.posting.specs.Metadata.{quoted, value, metaLine, metaStep}
+use Rattle.amount.specs.Details.{quoted}
+use Rattle.posting.specs.Metadata.{value, metaLine, metaStep}
 use Rattle.posting.specs.Postings.{postingLine}
 use Rattle.posting.proofs.PostingAlike.{key-alike, posting-line-alike, unquoted-alike}
 use Rattle.content.specs.Contents.{hardString, booking, openOf, eventOf}

@@ -7,7 +7,7 @@ use lib.ListN.{length}
 use lib.Seq.{take-append-seam}
 use Rattle.text.specs.Permitted.{clean}
 use Rattle.text.proofs.Ats.{At, at-next, at-place}
-use Rattle.amount.specs.Literal.{between}
+use Rattle.text.specs.Bytes.{between}
 
 pub at-text : {s : List ℕ} {i : ℕ} (xs ys : List ℕ) → At s i (xs ++ ys) → between s i (i + length xs) ≡ xs
 at-text {s} {i} xs ys A =

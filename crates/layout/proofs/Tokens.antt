@@ -18,6 +18,7 @@ use Rattle.text.specs.declared.account.AccountRead.{AccountRead}
 use Rattle.text.proofs.TestLaws.{absurd-bool, and-left, and-right}
 use Rattle.text.proofs.Ats.{At, at-next, at-one, at-byte, at-far}
 use Rattle.posting.specs.Metadata.{keyAt}
+use Rattle.text.proofs.AccountLaws.{colon-out, none-past}
 use Rattle.layout.proofs.Texts.{at-split}
 use Rattle.layout.proofs.Numbers.{All}
 use Rattle.layout.proofs.Values.{run-at}
@@ -325,13 +326,9 @@ colon-in : (b : ℕ) → eqb b 58 ≡ true → inParts b ≡ true
 unfolding inParts
 colon-in b e = rw (e, or-true (inAccount b))
 
-no-account : inAccount 0 ≡ false
-unfolding inAccount isCapital isSmall isDigit
-no-account = refl
-
 parted : (u : List ℕ) (i : ℕ) → Parted u i
 unfolding partsFrom
-parted [] i = record { xs = []; ys = []; cut = refl; end = omega arith; good = parts-none; first = λ h zs. absurd-bool (sym no-account ∙ h) }
+parted [] i = record { xs = []; ys = []; cut = refl; end = omega arith; good = parts-none; first = λ h zs. absurd-bool (sym none-past ∙ h) }
 parted (b ∷ u) i = go (inAccount b) refl (eqb b 58) refl (startsPart (getD u 0 0)) refl (parted u (i + 1))
   where
     go : (a : Bool) → inAccount b ≡ a → (c : Bool) → eqb b 58 ≡ c → (d : Bool) → startsPart (getD u 0 0) ≡ d → Parted u (i + 1) → Parted (b ∷ u) i
@@ -369,10 +366,6 @@ pub record Account (w : List ℕ) : Type 0 where
 no-part : startsPart 0 ≡ false
 unfolding startsPart isCapital isDigit
 no-part = refl
-
-colon-out : inAccount 58 ≡ false
-unfolding inAccount isCapital isSmall isDigit
-colon-out = refl
 
 account-if : (c : Bool) (x : AccountRead) (e : ℕ) → cond c x AccountRead.Miss ≡ AccountRead.To e → (c ≡ true) × (x ≡ AccountRead.To e)
 account-if true x e h = (refl, h)

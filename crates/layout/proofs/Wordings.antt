@@ -20,10 +20,9 @@ use Rattle.text.proofs.Inversions.{and-inv, must-inv, token-inv, to-inv}
 use Rattle.text.proofs.TestLaws.{absurd-bool}
 use Rattle.text.proofs.TokenEnds.{word-reach}
 use Rattle.text.specs.Every.{Every}
-use Rattle.amount.specs.Details.{span, Rows}
+use Rattle.amount.specs.Details.{span, Rows, quoted}
 use Rattle.amount.specs.Amounts.{hardGap}
 use Rattle.amount.specs.declared.detail.Detail.{Detail}
-use Rattle.posting.specs.Metadata.{quoted}
 use Rattle.content.specs.Contents.{hardString}
 use Rattle.entry.specs.Forms.{blank, directive, Form as Entry, asEntry, formOf}
 use Rattle.entry.specs.Directive.{option, include, tagged}

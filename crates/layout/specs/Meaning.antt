@@ -5,7 +5,7 @@ use mathlib.Core.Bool.{Bool, cond, _&&_, _||_, not}
 use mathlib.Core.List.{List, [], map}
 use lib.Dec.{eqb, ltb}
 use Rattle.amount.specs.Kinds.{blankKind, firstDetail, amountKind, toleranceKind, costKind, unitPriceKind, totalPriceKind, numberMetaKind}
-use Rattle.amount.specs.Literal.{between}
+use Rattle.text.specs.Bytes.{between}
 use Rattle.row.specs.declared.table.Row.{Row}
 use Rattle.row.specs.Details.{spanned}
 

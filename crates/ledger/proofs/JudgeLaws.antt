@@ -4,16 +4,14 @@ use native.Mathlib.Omega.{arith}
 use mathlib.Core.Path.{_≡_, refl, ap}
 use mathlib.Core.Bool.{Bool, true, false, cond, not, _||_}
 use mathlib.Core.List.{List, [], _∷_, _++_, map}
-use borrow.Author.Tests.{not-true, ne-eqb}
+use borrow.Author.Tests.{ne-eqb}
 use lib.Dec.{eqb}
 use lib.ListN.{getD, take, drop}
 use lib.Seq.{drop-drop, getD-drop, getD-take}
-use Rattle.text.specs.Bytes.{isSmall}
+use Rattle.text.specs.Bytes.{isSmall, between}
 use Rattle.text.specs.Run.{blanks}
-use Rattle.text.proofs.TestLaws.{and-right}
 use Rattle.amount.specs.declared.detail.Detail.{Detail}
 use Rattle.amount.specs.Details.{span}
-use Rattle.amount.specs.Literal.{between}
 use Rattle.amount.proofs.RowCounts.{flagKind, unflagged, Rising}
 use Rattle.row.specs.declared.table.Row.{Row}
 use Rattle.row.specs.Row.{rowOf}
@@ -27,6 +25,7 @@ use Rattle.ledger.specs.steps.Objections.{objectionOf, flagPasses, lostO
 use Rattle.ledger.specs.declared.strict.Objection.{Objection}
 use Rattle.entry.proofs.EntryForms.{entry-form}
 use Rattle.entry.proofs.EntryTold.{Told, line, txn, keyworded, worded, form-told}
+use Rattle.posting.proofs.FlagLaws.{flag-not-small}
 use Rattle.ledger.specs.Plain.{move, moved, Reading, denied}
 use Rattle.ledger.specs.Strict.{firstRefused}
 
@@ -94,10 +93,6 @@ flag-text s g =
     let e : g + 1 - g ≡ 1 = omega arith in
     let i : g + 0 ≡ g = omega arith in
     rw (e, getD-take 1 (drop g s) 0 0 (omega arith), getD-drop g s 0 0, i)
-
-flag-not-small : (b : ℕ) → isFlag b ≡ true → isSmall b ≡ false
-unfolding isFlag
-flag-not-small b e = not-true (isSmall b) (and-right (not (eqb b 0)) (not (isSmall b)) e)
 
 small-passes : (b : ℕ) → isSmall b ≡ true → flagPasses b ≡ true
 unfolding flagPasses

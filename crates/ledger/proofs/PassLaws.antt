@@ -10,7 +10,7 @@ use lib.Dec.{eqb}
 use lib.ListN.{length, drop, length-drop}
 use lib.Seq.{take-append-le, drop-append-le, drop-append-seam}
 use Rattle.text.specs.Every.{Every}
-use Rattle.amount.specs.Literal.{between}
+use Rattle.text.specs.Bytes.{between}
 use Rattle.row.specs.declared.table.Row.{Row}
 use Rattle.row.proofs.PourLaws.{le-or-lt}
 use Rattle.entry.proofs.EntryLines.{OnLine}

@@ -177,5 +177,11 @@ part-at-kept a l s = go (ltb (clean s) (length s))
 pub part-kept : (s : List ℕ) (rs : List Row) → part s ≡ accepted rs → Kept refusalKind 0 1 s rs
 part-kept s rs e = subst (Accepts (Kept refusalKind 0 1 s)) e (part-at-kept 0 1 s)
 
-pub part-few : (s : List ℕ) (rs : List Row) → part s ≡ accepted rs → length rs ≤ length s
-part-few s rs e = part-kept s rs e .few
+-- ---- what an accepted reading says of its parts
+
+pub after-accepted : (ds : List Row) (w : Reading) (rs : List Row) → after ds w ≡ accepted rs → (vs : List Row) × (w ≡ accepted vs) × (rs ≡ ds ++ vs)
+after-accepted ds (accepted vs) rs e = (vs, refl, cc)
+after-accepted ds (denied n p) rs e = absurd (let z : _≡_ {A = ℕ} 0 1 = cc in omega arith)
+
+pub accepted-same : (ps qs : List Row) → accepted ps ≡ accepted qs → ps ≡ qs
+accepted-same ps qs e = cc

@@ -7,7 +7,7 @@ use mir.Syntax.{w64}
 use mir.Val.{Fits}
 use borrow.Rule.Slice.PartMut.{putMid}
 use lib.ListN.{length, take, drop, length-append, length-map, length-drop, drop-of-length-le}
-use lib.Seq.{take-all, drop-drop}
+use lib.Seq.{drop-drop}
 use Rattle.text.specs.Permitted.{sizeLimit}
 use Rattle.row.specs.declared.table.Row.{Row}
 use Rattle.row.specs.Row.{pour, pourAt, placeOf, feeds}
@@ -22,6 +22,7 @@ use Rattle.entry.specs.steps.Settled.{ownRow, kindOf, entryAnswer, formRows, En
 use Rattle.entry.proofs.EntryForms.{entry-form, entry-sound}
 use Rattle.entry.proofs.EntryTold.{entry-few}
 use Rattle.entry.proofs.EntryPlaces.{entry-place}
+use Rattle.text.proofs.Steps.{rest-of}
 use Rattle.ledger.specs.Plain.{moved, accepted, denied, after, readFrom}
 use Rattle.ledger.specs.steps.Scan.{withLine, scanned}
 use Rattle.ledger.proofs.PlainLaws.{read-nil, read-got, read-refuse}
@@ -29,10 +30,6 @@ use Rattle.ledger.proofs.MoveLaws.{after-none, after-after, read-bound}
 use Rattle.ledger.proofs.LaidRows.{entry-laid}
 
 -- ---- one entry of a scan
-
--- the rest of a text, as the code lends it on
-pub rest-of : (s : List ℕ) (at : ℕ) → take (length s - at) (drop at s) ≡ drop at s
-rest-of s at = take-all (length s - at) (drop at s) (rw length-drop (omega arith))
 
 -- the rows that are written are the entry's, moved and with no line
 pub rows-laid : (a l : ℕ) (s : List ℕ) (n : ℕ) (rs : List Row) → entryOf s ≡ got n rs → formRows a (formOf s) ≡ map (withLine 0) (moved a l rs)

@@ -11,7 +11,7 @@ use lib.Dec.{eqb}
 use lib.ListN.{length, take, drop, length-drop, drop-of-length-le}
 use Rattle.text.specs.Bytes.{isBlank}
 use Rattle.text.specs.Run.{blanks}
-use Rattle.text.proofs.Steps.{run-within, run-ends}
+use Rattle.text.proofs.Steps.{run-within, run-ends, rest-of}
 use Rattle.text.specs.Permitted.{sizeLimit}
 use Rattle.row.specs.declared.table.Row.{Row}
 use Rattle.row.specs.Row.{feeds}
@@ -31,7 +31,7 @@ use Rattle.ledger.specs.declared.scan.Profile.the-variants.{Plain, Stric
 use Rattle.ledger.proofs.PlainLaws.{read-nil}
 use Rattle.ledger.proofs.MoveLaws.{after-none, after-after, read-move}
 use Rattle.ledger.proofs.JudgeLaws.{bad-append, bad-moved, heldBy, entry-bad}
-use Rattle.ledger.proofs.ScanLaws.{Reached, rest-of, read-on, turn-was, scan-denied, scan-accepted, scan-laws}
+use Rattle.ledger.proofs.ScanLaws.{Reached, read-on, turn-was, scan-denied, scan-accepted, scan-laws}
 
 -- ---- small functions of the code
 

@@ -3,4 +3,5 @@ pub mod Strict
 pub mod Strictness
 pub mod Answers
 pub mod steps
+pub mod Opened
 pub mod Examples

@@ -6,12 +6,11 @@ use mathlib.Core.Bool.{Bool, true, false, cond, not, _||_, _&&_}
 use mathlib.Core.List.{List, [], _∷_}
 use lib.Dec.{eqb}
 use lib.ListN.{getD}
-use Rattle.text.specs.Bytes.{bytes, isBlank, isDigit}
+use Rattle.text.specs.Bytes.{bytes, isBlank, isDigit, between}
 use Rattle.text.specs.Words.{startsWith}
 use Rattle.text.specs.Lines.{lineEndAt}
 use Rattle.text.specs.declared.Read.{Read}
 use Rattle.amount.specs.Kinds.{blankKind, flagKind}
-use Rattle.amount.specs.Literal.{between}
 use Rattle.row.specs.declared.table.Row.{Row}
 use Rattle.ledger.specs.Plain.{Reading, accepted, denied, part, plain}
 use Rattle.ledger.specs.declared.scan.Profile.{Profile}

@@ -10,7 +10,7 @@ use mathlib.Core.Bool.{Bool, true, false, cond, _||_, _&&_}
 use mathlib.Core.List.{List, [], _∷_, _++_}
 use lib.Dec.{eqb, ltb}
 use Rattle.text.specs.Answer.{Ans, To, Miss, Hard, _then_, must, _else_, more, _and_, maybe, many}
-use Rattle.text.proofs.TestLaws.{absurd-bool}
+use Rattle.text.proofs.TestLaws.{absurd-bool, or-second}
 use Rattle.text.proofs.Joins.{Reach, reach-from, many-reach, and-assoc}
 use Rattle.text.proofs.Alike.{Same, both-to, both-miss, both-hard}
 use Rattle.amount.specs.declared.detail.Detail.{Detail}
@@ -31,10 +31,6 @@ torn n (d ∷ ds) = tornBy n d || torn n ds
 or-keeps : (a b c : Bool) → (a || b) ≡ true → (b ≡ true → c ≡ true) → (a || c) ≡ true
 or-keeps true b c e f = refl
 or-keeps false b c e f = f e
-
-or-second : (a b : Bool) → b ≡ true → (a || b) ≡ true
-or-second true b e = refl
-or-second false b e = e
 
 pub torn-left : (n : ℕ) (xs ys : List Detail) → torn n xs ≡ true → torn n (xs ++ ys) ≡ true
 unfolding torn
@@ -103,10 +99,6 @@ module _ {A : Type 0} {w : A → List Detail} {n m : ℕ} {t : Bool} where
   then-at (both-to i j x y k e) f = rw (k .same, e tt) (f j y (rw (k .same, e tt)) (k .below))
   then-at both-miss f = misses
   then-at (both-hard k p q e) f = refuses k p
-
-  pub then-agree : {B : Type 0} {k : ℕ} {a b : Ans B} {g h : ℕ → B → Ans A} → Same k a b → ((j : ℕ) (x : B) → j < k → Agree w n m t (g j x) (h j x))
-      → Agree w n m t (a then g) (b then h)
-  then-agree S f = then-at S (λ j x e l. f j x l)
 
 -- a choice whose second misses wherever the first reads
 pub else-strict : {A : Type 0} {w : A → List Detail} {n m : ℕ} {a b c d : Ans A} → Agree w n m true a b → Agree w n m true c d → ((j : ℕ) (x : A) → a ≡ To j x → d ≡ Miss)

@@ -23,9 +23,9 @@ use Rattle.posting.specs.Metadata.{metadata}
 use Rattle.posting.specs.Postings.{postingLine, posting, bodyStep, body}
 use Rattle.posting.proofs.PostingEnds.{posting-line-reach, body-step-reach}
 use Rattle.posting.proofs.PostingFew.{posting-line-fits, body-step-fits}
-use Rattle.posting.proofs.OneRows.{token-miss}
-use Rattle.posting.proofs.ManyLaws.{Stepping, Turns, turns-start, turns-laws}
-use Rattle.posting.proofs.MetaWrites.{gap-end}
+use Rattle.amount.proofs.OneRows.{token-miss}
+use Rattle.row.proofs.ManyLaws.{Stepping, Turns, turns-start, turns-laws}
+use Rattle.text.proofs.InLine.{gap-ends}
 
 -- ---- a posting and its metadata: x is the posting's answer
 
@@ -82,7 +82,7 @@ module _ (s : List ℕ) where
 
   posting-end : posting s (length s) ≡ Miss
   unfolding posting postingLine gap _and_
-  posting-end = rw (token-miss (gapAt s (length s)) (gapAt s (length s)) refl _ (gap-end s))
+  posting-end = rw (token-miss (gapAt s (length s)) (gapAt s (length s)) refl _ (gap-ends s))
 
   body-end : bodyStep s (length s) ≡ Miss
   unfolding bodyStep _else_

@@ -6,14 +6,14 @@ use mathlib.Core.List.{List, [], _∷_, _++_}
 use lib.ListN.{length, length-append}
 use Rattle.text.specs.Run.{blanks}
 use Rattle.text.specs.Answer.{Ans, To, Miss, Hard, _then_, _else_, more, _and_, maybe}
-use Rattle.text.specs.Leaves.{gap, account, date, byte}
+use Rattle.text.specs.Leaves.{gap, date, byte, comma}
 use Rattle.amount.specs.declared.detail.Detail.{Detail}
 use Rattle.amount.specs.Details.{Rows}
 use Rattle.amount.specs.Amounts.{amount}
 use Rattle.amount.proofs.RowCounts.{Bare, gap-bare, byte-bare}
-use Rattle.posting.specs.Costs.{price, comma, inside, cost}
+use Rattle.posting.specs.Costs.{inside, cost}
 use Rattle.posting.specs.steps.Lots.{optionalCost}
-use Rattle.posting.proofs.OneRows.{OneRow, row, none, hard}
+use Rattle.amount.proofs.OneRows.{OneRow, row, none, hard}
 use Rattle.posting.proofs.LotLaws.{amount-row}
 use Rattle.posting.proofs.PostingFew.{held}
 

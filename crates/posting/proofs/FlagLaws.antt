@@ -4,14 +4,19 @@ use mathlib.Core.Path.{_≡_, refl}
 use mathlib.Core.Bool.{Bool, true, false, cond, not, _&&_}
 use mathlib.Core.List.{List}
 use lib.Dec.{eqb}
-use borrow.Author.Tests.{ne-eqb}
+use borrow.Author.Tests.{ne-eqb, not-true}
 use lib.ListN.{length, getD}
 use Rattle.text.specs.Bytes.{isSmall}
 use Rattle.text.specs.Lines.{gapAt}
 use Rattle.text.specs.declared.Read.{Read}
+use Rattle.text.proofs.TestLaws.{and-right}
 use Rattle.text.proofs.Steps.{getD-past}
 use Rattle.posting.specs.Postings.{isFlag}
 use Rattle.posting.specs.steps.Parts.{flagGap}
+
+pub flag-not-small : (b : ℕ) → isFlag b ≡ true → isSmall b ≡ false
+unfolding isFlag
+flag-not-small b e = not-true (isSmall b) (and-right (not (eqb b 0)) (not (isSmall b)) e)
 
 module _ (s : List ℕ) (at : ℕ) where
   pub flag-none : getD s at 0 ≡ 0 → Read.Miss ≡ flagGap s at

@@ -4,8 +4,6 @@ pub mod Agree
 pub mod StringAgree
 pub mod PostingAlike
 pub mod PostingAgree
-pub mod OneRows
-pub mod ManyLaws
 pub mod MetaLaws
 pub mod OtherLines
 pub mod MetaWrites

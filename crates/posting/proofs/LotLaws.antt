@@ -2,31 +2,30 @@
 use Prim.Native.Nat.{ℕ, _+_, _≤_}
 use native.Mathlib.Omega.{arith}
 use mathlib.Core.Path.{_≡_, refl, sym, _∙_}
-use mathlib.Core.Bool.{Bool, true, false, cond}
 use mathlib.Core.List.{List, [], _∷_}
 use borrow.Author.Tests.{ne-eqb, le-ltb}
-use lib.Dec.{eqb}
 use lib.ListN.{length, getD}
 use Rattle.text.specs.Bytes.{isBlank}
 use Rattle.text.specs.Run.{blanks}
-use Rattle.text.specs.Answer.{Ans, To, Miss, Hard, _then_, _else_, more, _and_}
-use Rattle.text.specs.Leaves.{token, dated, gap, currency, date, byte}
-use Rattle.text.specs.Lines.{gapAt}
+use Rattle.text.specs.Answer.{Ans, To, Miss, Hard, _then_, _else_, _and_}
+use Rattle.text.specs.Leaves.{token, dated, gap, currency, date, byte, comma}
+use Rattle.text.specs.Lines.{gapAt, commaAt}
 use Rattle.text.specs.Dates.{dateAt}
 use Rattle.text.specs.Currencies.{currencyAt}
 use Rattle.text.specs.declared.Read.{Read}
 use Rattle.text.specs.declared.date.Dated.{Dated}
 use Rattle.text.proofs.Steps.{getD-past, byte-within, run-stops}
+use Rattle.text.proofs.Joins.{else-none}
 use Rattle.amount.specs.Details.{Rows, valued}
 use Rattle.amount.specs.Expression.{expression}
 use Rattle.amount.specs.Amounts.{amount}
 use Rattle.amount.specs.steps.Answers.{noRow, oneOf}
 use Rattle.amount.specs.declared.detail.Detail.{Detail}
 use Rattle.amount.specs.declared.detail.One.{One}
-use Rattle.posting.specs.Costs.{price, comma, Lot, lot, inside}
+use Rattle.posting.specs.Costs.{price, Lot, lot, inside}
 use Rattle.posting.specs.declared.cost.Lot as code
-use Rattle.posting.specs.steps.Lots.{commaAt, braceAt, lotRow, lotOf, gapAmount, onDate, afterComma, amountDate, withDate, dateAmount, alone, lotElse, dateFirst}
-use Rattle.posting.proofs.OneRows.{OneRow, row, none, hard, token-to, token-miss, byteAt, byte-token, token-row, byte-row, else-row, then-row}
+use Rattle.posting.specs.steps.Lots.{braceAt, lotRow, lotOf, gapAmount, onDate, afterComma, amountDate, withDate, dateAmount, alone, lotElse, dateFirst}
+use Rattle.amount.proofs.OneRows.{OneRow, row, none, hard, token-to, token-miss, byteAt, byte-token, token-row, byte-row, else-row, then-row}
 
 -- ---- amounts and prices
 
@@ -49,12 +48,6 @@ gap-not : (s : List ℕ) (at : ℕ) → getD s at 0 ≡ 64 → gapAt s at ≡ Re
 unfolding gapAt isBlank
 gap-not s at e =
     rw (run-stops isBlank s at (byte-within s at 64 (sym e) (omega arith)) (rw e), le-ltb at at (omega arith))
-
-else-none : (a : Rows) → (a else Miss) ≡ a
-unfolding _else_
-else-none (To j xs) = refl
-else-none Miss = refl
-else-none (Hard k p) = refl
 
 module _ (s : List ℕ) (at : ℕ) where
   -- one `@`, and two
@@ -111,17 +104,6 @@ module _ (s : List ℕ) (at : ℕ) where
 -- ---- blanks and a byte: b is past the blanks
 
 module _ (s : List ℕ) (at b : ℕ) (p : b ≡ blanks s at) where
-  pub comma-read : (e : ℕ) → getD s b 0 ≡ 44 → e ≡ blanks s (b + 1) → Read.To e ≡ commaAt s at
-  unfolding commaAt
-  comma-read e q w = rw (← p, q, w)
-
-  pub comma-no : (getD s b 0 ≡ 44 → ⊥) → Read.Miss ≡ commaAt s at
-  unfolding commaAt
-  comma-no q = rw (← p, ne-eqb (getD s b 0) 44 q)
-
-  pub comma-past : length s ≤ b → Read.Miss ≡ commaAt s at
-  comma-past h = comma-no (λ q. omega (arith, getD-past s b h))
-
   pub brace-read : getD s b 0 ≡ 125 → Read.To (b + 1) ≡ braceAt s at
   unfolding braceAt
   brace-read q = rw (← p, q)
@@ -132,16 +114,6 @@ module _ (s : List ℕ) (at b : ℕ) (p : b ≡ blanks s at) where
 
   pub brace-past : length s ≤ b → Read.Miss ≡ braceAt s at
   brace-past h = brace-no (λ q. omega (arith, getD-past s b h))
-
--- the comma of the rule
-pub comma-token : (s : List ℕ) (at : ℕ) → comma s at ≡ token (commaAt s at)
-unfolding comma commaAt byte _and_ more token
-comma-token s at = go (eqb (getD s (blanks s at) 0) 44) (blanks s at)
-  where
-    go : (t : Bool) (b : ℕ)
-        → ((cond t (To (b + 1) []) Miss) and λ i. To (blanks s i) []) ≡ token {A = Detail} (cond t (Read.To (blanks s (b + 1))) Read.Miss)
-    go true b = refl
-    go false b = refl
 
 -- ---- the five forms, by the arms of the matches
 
@@ -254,15 +226,15 @@ module _ (s : List ℕ) where
   then-amount y (Read.To f) = with-date y (amount 26 s f) (amount-row 26 s f (omega arith))
   then-amount y Read.Miss = refl
 
-  is-amount-date : (a : Rows) → OneRow a → lotOf (a then λ i rs. comma s i then λ j _. date s j then λ e y. To e (lot y rs)) ≡ amountDate s (oneOf a)
-  unfolding _then_ amountDate oneOf lotOf
-  is-amount-date a (row j d h) = rw (comma-token s j) (then-date d (commaAt s j))
+  is-amount-date : (a : Rows) → OneRow a → lotOf (a then λ i rs. comma {A = Detail} s i then λ j _. date s j then λ e y. To e (lot y rs)) ≡ amountDate s (oneOf a)
+  unfolding comma _then_ amountDate oneOf lotOf
+  is-amount-date a (row j d h) = then-date d (commaAt s j)
   is-amount-date a none = refl
   is-amount-date a (hard k p) = refl
 
-  is-date-amount : (d : Dated) → lotOf (dated d then λ i y. comma s i then λ j _. amount 26 s j then λ e rs. To e (lot y rs)) ≡ dateAmount s d
-  unfolding dated _then_ dateAmount lotOf
-  is-date-amount (Dated.On i y) = rw (comma-token s i) (then-amount y (commaAt s i))
+  is-date-amount : (d : Dated) → lotOf (dated d then λ i y. comma {A = Detail} s i then λ j _. amount 26 s j then λ e rs. To e (lot y rs)) ≡ dateAmount s d
+  unfolding comma dated _then_ dateAmount lotOf
+  is-date-amount (Dated.On i y) = then-amount y (commaAt s i)
   is-date-amount Dated.Miss = refl
 
 is-alone : (at : ℕ) (a : Rows) (d : Dated) → OneRow a
@@ -295,8 +267,6 @@ module _ (s : List ℕ) (at : ℕ) (a : One) (x : code.Lot) (v : a ≡ oneOf (am
 pub ruleset gap-amount-laws = (gap-amount-on, gap-amount-miss)
 
 pub ruleset price-laws = (price-total, price-single, price-no, price-past)
-
-pub ruleset comma-laws = (comma-read, comma-no, comma-past)
 
 pub ruleset brace-laws = (brace-read, brace-no, brace-past)
 

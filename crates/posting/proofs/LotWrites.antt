@@ -9,7 +9,7 @@ use lib.Dec.{eqb}
 use lib.ListN.{length, getD}
 use Rattle.text.specs.Run.{blanks}
 use Rattle.text.specs.Answer.{Ans, To, Miss, Hard, _then_, _else_, _and_, maybe}
-use Rattle.text.specs.Leaves.{gap, date, byte}
+use Rattle.text.specs.Leaves.{gap, date, byte, comma}
 use Rattle.text.specs.Lines.{gapAt}
 use Rattle.text.specs.declared.Read.{Read}
 use Rattle.text.proofs.Steps.{getD-past}
@@ -24,10 +24,10 @@ use Rattle.row.specs.steps.Writing.{someRow, noted, outs, Did}
 use Rattle.row.specs.declared.writer.Out.{Out}
 use Rattle.row.specs.declared.writer.Ran.{Ran}
 use Rattle.row.proofs.DidLaws.{did-read, did-miss, did-hard, did-none, did-emit, maybe-read, maybe-miss, maybe-hard}
-use Rattle.posting.specs.Costs.{price, comma, Lot, lot, inside, cost}
+use Rattle.posting.specs.Costs.{price, Lot, lot, inside, cost}
 use Rattle.posting.specs.declared.cost.Lot as code
 use Rattle.posting.specs.steps.Lots.{braceAt, lotRow, lotOf, optionalPrice, optionalCost}
-use Rattle.posting.proofs.OneRows.{OneRow, row, none, hard, one-read, one-miss, one-hard, token-to, token-miss, byteAt, byte-token}
+use Rattle.amount.proofs.OneRows.{OneRow, row, none, hard, one-read, one-miss, one-hard, token-to, token-miss, byteAt, byte-token}
 use Rattle.posting.proofs.LotLaws.{amount-row, price-row}
 
 -- ---- an optional price: g is the gap's answer, x the price's

@@ -19,7 +19,7 @@ use Rattle.text.specs.Currencies.{currencyAt}
 use Rattle.text.specs.declared.Read.{Read}
 use Rattle.text.proofs.Steps.{getD-past}
 use Rattle.text.proofs.StringSame.{string-ahead, string-ends}
-use Rattle.amount.specs.Details.{named, valued}
+use Rattle.amount.specs.Details.{named, valued, quoted}
 use Rattle.amount.specs.Expression.{expression}
 use Rattle.amount.specs.steps.Answers.{answerOf, oneOf}
 use Rattle.amount.specs.declared.detail.Detail.{Detail}
@@ -28,9 +28,9 @@ use Rattle.amount.specs.declared.expression.Answer.{Answer}
 use Rattle.amount.proofs.Forms.{was-read, was-miss}
 use Rattle.amount.proofs.Refusals.{expression-three}
 use Rattle.amount.proofs.AmountForms.{deep-three}
-use Rattle.posting.specs.Metadata.{keyAt, key, quoted, value, metaLine}
+use Rattle.posting.specs.Metadata.{keyAt, key, value, metaLine}
 use Rattle.posting.specs.steps.Lines.{unitValue, numberValue, valueEnd, gapValue, colonValue, keyedLine}
-use Rattle.posting.proofs.OneRows.{OneRow, row, one-read, one-miss, one-hard, token-to, token-miss, byteAt, byte-token, token-row, byte-row, row-token, else-row, then-row}
+use Rattle.amount.proofs.OneRows.{OneRow, row, one-read, one-miss, one-hard, token-to, token-miss, byteAt, byte-token, token-row, byte-row, row-token, else-row, then-row}
 
 -- ---- the key
 

@@ -5,12 +5,11 @@ use mathlib.Core.Path.{_≡_, refl}
 use mathlib.Core.List.{List, [], _∷_}
 use borrow.Author.Tests.{le-ltb}
 use lib.ListN.{length}
-use Rattle.text.specs.Bytes.{isBlank}
 use Rattle.text.specs.Answer.{To, Miss, Hard, _else_}
 use Rattle.text.specs.Leaves.{token, gap, emptyLine}
 use Rattle.text.specs.Lines.{gapAt, emptyAt}
 use Rattle.text.specs.declared.Read.{Read}
-use Rattle.text.proofs.Steps.{run-ends}
+use Rattle.text.proofs.InLine.{gap-ends}
 use Rattle.amount.specs.steps.Answers.{oneOf}
 use Rattle.amount.specs.declared.detail.Detail.{Detail}
 use Rattle.amount.specs.declared.detail.One.{One}
@@ -25,10 +24,10 @@ use Rattle.row.proofs.DidLaws.{did-none, did-emit}
 use Rattle.posting.specs.Metadata.{metaLine, metaStep, metadata}
 use Rattle.posting.proofs.PostingEnds.{meta-step-reach}
 use Rattle.posting.proofs.PostingFew.{meta-step-fits}
-use Rattle.posting.proofs.OneRows.{one-read, one-miss, one-hard, token-miss}
+use Rattle.amount.proofs.OneRows.{one-read, one-miss, one-hard, token-miss}
 use Rattle.posting.proofs.MetaLaws.{meta-row}
 use Rattle.posting.proofs.OtherLines.{step-other}
-use Rattle.posting.proofs.ManyLaws.{Stepping, Runs, runs-start, runs-laws}
+use Rattle.row.proofs.ManyLaws.{Stepping, Runs, runs-start, runs-laws}
 
 -- ---- a line: x is the answer of the metadata line, l that of the empty line
 
@@ -54,13 +53,9 @@ module _ (base : ℕ) (s : List ℕ) (at : ℕ) (o : Out) (t : List ℕ) (x : On
 -- ---- the loop
 
 module _ (s : List ℕ) where
-  pub gap-end : gapAt s (length s) ≡ Read.Miss
-  unfolding gapAt
-  gap-end = rw (run-ends isBlank s (length s) (omega arith), le-ltb (length s) (length s) (omega arith))
-
   line-end : metaLine s (length s) ≡ Miss
   unfolding metaLine gap
-  line-end = token-miss (gapAt s (length s)) (gapAt s (length s)) refl _ gap-end
+  line-end = token-miss (gapAt s (length s)) (gapAt s (length s)) refl _ (gap-ends s)
 
   step-end : metaStep s (length s) ≡ Miss
   unfolding metaStep _else_ emptyLine emptyAt token

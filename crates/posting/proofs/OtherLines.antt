@@ -9,20 +9,19 @@ use lib.Dec.{ltb, leb}
 use lib.ListN.{length, getD}
 use Rattle.text.specs.Bytes.{isDigit, isSmall, isCapital, startsPart}
 use Rattle.text.specs.Run.{blanks}
-use Rattle.text.specs.Answer.{To, Miss, Hard, _and_, _else_}
+use Rattle.text.specs.Answer.{To, Miss, _and_, _else_}
 use Rattle.text.specs.Leaves.{token, gap, emptyLine}
 use Rattle.text.specs.Lines.{gapAt, commentEnd, eolAt, lineEndAt, emptyAt}
 use Rattle.text.specs.declared.Read.{Read}
 use Rattle.text.proofs.Steps.{byte-within}
 use Rattle.text.proofs.TestLaws.{and-left, and-right}
-use Rattle.amount.specs.Details.{Rows}
 use Rattle.row.specs.steps.Writing.{Did}
 use Rattle.row.specs.declared.writer.Out.{Out}
 use Rattle.row.specs.declared.writer.Ran.{Ran}
 use Rattle.row.proofs.DidLaws.{did-miss}
 use Rattle.posting.specs.Metadata.{keyAt, key, metaLine, metaStep}
 use Rattle.posting.specs.steps.Lines.{valueEnd, gapValue, colonValue, keyedLine}
-use Rattle.posting.proofs.OneRows.{token-to, token-miss}
+use Rattle.amount.proofs.OneRows.{token-to, token-miss}
 
 part-bounds : (c : ℕ) → startsPart c ≡ true → (48 ≤ c) × (c ≤ 90) × (c ≡ 59 → ⊥)
 unfolding startsPart isCapital isDigit

@@ -1,7 +1,7 @@
 -- A posting as it is written, each answer from what the code knows where it gives it.
 use Prim.Native.Nat.{ℕ, _+_, _≤_}
 use native.Mathlib.Omega.{arith}
-use mathlib.Core.Path.{_≡_, refl, sym, _∙_, ap}
+use mathlib.Core.Path.{_≡_, refl, _∙_, ap}
 use mathlib.Core.Bool.{Bool, true, false, cond}
 use mathlib.Core.List.{List, [], _∷_}
 use lib.ListN.{getD}
@@ -29,7 +29,7 @@ use Rattle.row.proofs.TokenLaws.{token-read, token-end, token-end-miss, token-m
 use Rattle.posting.specs.Postings.{isFlag, flag, postingFlag, units, postingLine}
 use Rattle.posting.specs.steps.Lots.{optionalPrice, optionalCost}
 use Rattle.posting.specs.steps.Parts.{flagGap, costsOf, unitsOf, unitsEnd, holderOf, flaggedOf}
-use Rattle.posting.proofs.OneRows.{one-read, one-miss, one-hard, token-to, token-miss}
+use Rattle.amount.proofs.OneRows.{one-read, one-miss, one-hard, token-to, token-miss}
 use Rattle.posting.proofs.LotLaws.{amount-row}
 use Rattle.posting.proofs.FewRows.{few-at, optional-cost-few}
 

@@ -11,16 +11,17 @@ use Rattle.text.specs.Currencies.{currencyAt}
 use Rattle.text.specs.Answer.{To, Miss, must, _then_, _and_, _else_}
 use Rattle.text.specs.Leaves.{token, string, currency, lineEnd}
 use Rattle.text.specs.declared.Read.{Read}
-use Rattle.text.proofs.InLine.{starts, start-bounds, line-end-misses}
+use Rattle.text.proofs.InLine.{start-bounds, line-end-misses}
 use Rattle.text.proofs.Alike.{Upto, upto}
 use Rattle.text.proofs.SharedLines.{Shared, gap-alike, line-alike, byte-alike}
+use Rattle.text.specs.Boundaries.{isStart}
 use Rattle.text.proofs.TokenEnds.{line-reach}
 use Rattle.text.proofs.TextCut.{xs, ys, s, cut, at-seam, same-byte, gap-same, empty-same}
 use Rattle.amount.specs.declared.detail.Detail.{Detail}
-use Rattle.amount.specs.Details.{named}
+use Rattle.amount.specs.Details.{named, quoted}
 use Rattle.amount.proofs.NoExpression.{no-expression}
 use Rattle.row.proofs.SureLaws.{Sure, sure-many}
-use Rattle.posting.specs.Metadata.{quoted, value, metaLine, metaStep, metadata}
+use Rattle.posting.specs.Metadata.{value, metaLine, metaStep, metadata}
 use Rattle.posting.specs.Postings.{posting, bodyStep, body}
 use Rattle.posting.proofs.PostingEnds.{value-reach, meta-step-reach, body-step-reach}
 use Rattle.posting.proofs.Agree.{Agrees, refuses, same-agree, must-agree, and-agree, and-strict, else-agree, else-strict, many-agree}
@@ -46,7 +47,7 @@ module _ (s : List ℕ) (at : ℕ) (e : getD s at 0 ≡ 34) where
   unfolding _then_ _and_ _else_
   no-value k c = rw (no-expression s at e, no-currency)
 
-module _ (front t : List ℕ) (b : ℕ) (B : starts b ≡ true) where
+module _ (front t : List ℕ) (b : ℕ) (B : isStart b ≡ true) where
   abbrev X : List ℕ
   X = xs front t b B
 

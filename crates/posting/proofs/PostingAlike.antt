@@ -9,14 +9,14 @@ use Rattle.text.specs.Answer.{To, _then_, _and_, _else_}
 use Rattle.text.specs.Leaves.{gap, currency}
 use Rattle.text.proofs.InLine.{no-lf}
 use Rattle.text.proofs.Alike.{Alike, both-to, then-alike, and-alike, else-alike, maybe-alike, if-alike}
-use Rattle.text.proofs.SharedLines.{Shared, byte-same, told, blanks-alike, gap-alike, line-alike, account-alike, byte-alike, currency-alike, started-alike, date-alike}
+use Rattle.text.proofs.SharedLines.{Shared, byte-same, told, blanks-alike, gap-alike, line-alike, account-alike, byte-alike, currency-alike, started-alike, comma-alike, date-alike}
 use Rattle.amount.specs.declared.detail.Detail.{Detail}
 use Rattle.amount.specs.Details.{Rows, named, valued}
 use Rattle.amount.specs.Expression.{expression}
 use Rattle.amount.proofs.ExpressionAlike.{expression-alike}
 use Rattle.amount.proofs.AmountLaws.{amount-alike}
 use Rattle.posting.specs.Metadata.{keyAt, key}
-use Rattle.posting.specs.Costs.{price, comma, inside, cost}
+use Rattle.posting.specs.Costs.{price, inside, cost}
 use Rattle.posting.specs.Postings.{isFlag, flag, postingFlag, units, postingLine}
 
 small-lf : isSmall 10 ≡ false
@@ -49,16 +49,12 @@ module _ {Q : Type 0} {s z : List ℕ} {K P : ℕ → ℕ → Type 0} (L : Share
 
   -- ---- rule 13
 
-  pub comma-alike : {i j : ℕ} → K i j → Alike Q K (comma s i) (comma z j)
-  unfolding comma
-  comma-alike S = and-alike _ _ (byte-alike L 44 refl (blanks-alike L S)) (λ a b T. both-to _ _ [] [] (blanks-alike L T) (λ _. refl))
-
   inside-alike : {i j : ℕ} → K i j → Alike Q K (inside s i) (inside z j)
   unfolding inside
   inside-alike {i} {j} S =
-      else-alike (then-alike _ _ (amount-alike L 26 S) (λ a b x y T t. then-alike _ _ (comma-alike T) (λ c d _ _ U _. then-alike _ _ (date-alike L U) (λ e f v w W u.
+      else-alike (then-alike _ _ (amount-alike L 26 S) (λ a b x y T t. then-alike _ _ (comma-alike L T) (λ c d _ _ U _. then-alike _ _ (date-alike L U) (λ e f v w W u.
       both-to e f _ _ W (λ q. rw (t q, u q))))))
-      (else-alike (then-alike _ _ (date-alike L S) (λ a b v w T t. then-alike _ _ (comma-alike T) (λ c d _ _ U _. then-alike _ _ (amount-alike L 26 U) (λ e f x y W u.
+      (else-alike (then-alike _ _ (date-alike L S) (λ a b v w T t. then-alike _ _ (comma-alike L T) (λ c d _ _ U _. then-alike _ _ (amount-alike L 26 U) (λ e f x y W u.
       both-to e f _ _ W (λ q. rw (t q, u q))))))
       (else-alike (then-alike _ _ (amount-alike L 26 S) (λ a b x y T t. both-to a b _ _ T (λ q. rw (t q))))
       (else-alike (then-alike _ _ (date-alike L S) (λ a b v w T t. both-to a b _ _ T (λ q. rw (t q)))) (both-to i j _ _ S (λ _. refl)))))

@@ -7,19 +7,18 @@ use lib.ListN.{length, getD}
 use Rattle.text.specs.Bytes.{isSmall, isBlank, inTag}
 use Rattle.text.specs.Run.{runTo, blanks}
 use Rattle.text.specs.Answer.{To, Miss, _and_, maybe, many}
-use Rattle.text.specs.Leaves.{token, gap, lineEnd, date, string, account, currency, byte}
+use Rattle.text.specs.Leaves.{token, gap, lineEnd, date, account, currency, byte, comma}
 use Rattle.text.specs.declared.Read.{Read}
 use Rattle.text.proofs.Steps.{such-within}
 use Rattle.text.proofs.Joins.{Reach, to-reach, miss-reach, reach-from, cond-reach, else-reach, then-reach, and-reach, maybe-reach, many-reach}
-use Rattle.text.proofs.TokenEnds.{run-reach, gap-reach, line-reach, empty-reach, string-reach, account-reach, currency-reach, byte-reach, date-reach}
-use Rattle.amount.specs.declared.detail.Detail.{Detail}
+use Rattle.text.proofs.TokenEnds.{run-reach, gap-reach, line-reach, empty-reach, account-reach, currency-reach, byte-reach, date-reach, comma-reach}
 use Rattle.amount.specs.Details.{Rows}
 use Rattle.amount.specs.Expression.{expression}
 use Rattle.amount.specs.Amounts.{amount}
 use Rattle.amount.proofs.ExpressionEnds.{expression-reach}
-use Rattle.amount.proofs.AmountLaws.{amount-reach}
-use Rattle.posting.specs.Metadata.{keyAt, key, quoted, value, metaLine, metaStep, metadata}
-use Rattle.posting.specs.Costs.{price, comma, inside, cost}
+use Rattle.amount.proofs.AmountLaws.{amount-reach, quoted-reach}
+use Rattle.posting.specs.Metadata.{keyAt, key, value, metaLine, metaStep, metadata}
+use Rattle.posting.specs.Costs.{price, inside, cost}
 use Rattle.posting.specs.Postings.{isFlag, flag, postingFlag, units, postingLine, posting, bodyStep, body}
 
 -- ---- a reader that takes a byte at least
@@ -51,14 +50,10 @@ module _ (s : List ℕ) where
       to-reach N (at + 1) (runTo inTag s (at + 1)) [] (r .0) (r .1))
       (λ _. miss-reach N (at + 1))
 
-  pub quoted-reach : (row : ℕ → ℕ → Detail) (at : ℕ) → Reach N (at + 1) (quoted row s at)
-  unfolding quoted
-  quoted-reach row at = and-reach N (at + 1) (at + 1) (string s at) _ (string-reach s at) (λ e p q. to-reach N (at + 1) e _ p q)
-
   pub value-reach : (k c at : ℕ) → Reach N (at + 1) (value k c s at)
   unfolding value
   value-reach k c at =
-      else-reach N (at + 1) _ _ (quoted-reach _ at)
+      else-reach N (at + 1) _ _ (quoted-reach s _ at)
       (else-reach N (at + 1) _ _
       (then-reach N (at + 1) (at + 1) (expression s at) _ (expression-reach s at) (λ e v p q. to-reach N (at + 1) e _ p q))
       (and-reach N (at + 1) (at + 1) (currency s at) _ (currency-reach s at) (λ e p q. to-reach N (at + 1) e _ p q)))
@@ -95,24 +90,16 @@ module _ (s : List ℕ) where
 
   -- ---- rule 13
 
-  pub comma-reach : (at : ℕ) → at ≤ N → Reach N (at + 1) (comma s at)
-  unfolding comma
-  comma-reach at h =
-      let r = run-reach isBlank s at h in
-      and-reach N (blanks s at + 1) (at + 1) (byte 44 s (blanks s at)) _ (byte-reach s (blanks s at) 44 (omega arith)) (λ i p q.
-      let u = run-reach isBlank s i q in
-      to-reach N (at + 1) (blanks s i) [] (omega arith) (u .1))
-
   pub inside-reach : (at : ℕ) → at ≤ N → Reach N at (inside s at)
   unfolding inside
   inside-reach at h =
       else-reach N at _ _
       (then-reach N (at + 1) at (amount 26 s at) _ (amount-reach s 26 at) (λ i rs p₁ q₁.
-      then-reach N (i + 1) at (comma s i) _ (comma-reach i q₁) (λ j _ p₂ q₂.
+      then-reach N (i + 1) at (comma s i) _ (comma-reach s i q₁) (λ j _ p₂ q₂.
       then-reach N (j + 10) at (date s j) _ (date-reach s j q₂) (λ e d p₃ q₃. to-reach N at e _ (omega arith) q₃))))
       (else-reach N at _ _
       (then-reach N (at + 10) at (date s at) _ (date-reach s at h) (λ i d p₁ q₁.
-      then-reach N (i + 1) at (comma s i) _ (comma-reach i q₁) (λ j _ p₂ q₂.
+      then-reach N (i + 1) at (comma s i) _ (comma-reach s i q₁) (λ j _ p₂ q₂.
       then-reach N (j + 1) at (amount 26 s j) _ (amount-reach s 26 j) (λ e rs p₃ q₃. to-reach N at e _ (omega arith) q₃))))
       (else-reach N at _ _
       (then-reach N (at + 1) at (amount 26 s at) _ (amount-reach s 26 at) (λ e rs p₁ q₁. to-reach N at e _ (omega arith) q₁))

@@ -7,12 +7,12 @@ use mathlib.Core.List.{List, [], _∷_}
 use lib.ListN.{length, getD}
 use Rattle.text.specs.Bytes.{isBlank}
 use Rattle.text.specs.Run.{blanks}
-use Rattle.text.specs.Answer.{Ans, To, Miss, Hard, _then_, _and_, _else_, more, maybe}
-use Rattle.text.specs.Leaves.{gap, lineEnd, emptyLine, date, account, currency, byte}
+use Rattle.text.specs.Answer.{Ans, To, Miss, Hard, _then_, _and_, _else_, maybe}
+use Rattle.text.specs.Leaves.{gap, lineEnd, emptyLine, date, account, currency, byte, comma}
 use Rattle.text.proofs.Joins.{to-reach, reach-from}
 use Rattle.text.proofs.Inversions.{to-inv, else-inv, then-inv}
 use Rattle.text.proofs.DayLaws.{date-there}
-use Rattle.text.proofs.TokenEnds.{run-reach, gap-reach, line-reach, empty-reach, string-reach, account-reach, currency-reach, byte-reach, date-reach}
+use Rattle.text.proofs.TokenEnds.{run-reach, gap-reach, line-reach, empty-reach, account-reach, currency-reach, byte-reach, date-reach, comma-reach}
 use Rattle.amount.specs.declared.detail.Detail.{Detail}
 use Rattle.amount.specs.Details.{Rows, named}
 use Rattle.amount.specs.Expression.{expression}
@@ -20,12 +20,12 @@ use Rattle.amount.specs.Amounts.{amount}
 use Rattle.amount.proofs.ExpressionEnds.{expression-reach}
 use Rattle.amount.proofs.AmountLaws.{amount-reach}
 use Rattle.amount.proofs.ValueSizes.{zero-small, read-small}
-use Rattle.amount.proofs.RowCounts.{Kinds, partKinds, metaKinds, midLine, unset, day, flagged, Filled, named-filled, valued-filled, Rising, placed-wide, Holds, FitsFrom, Fits, to-fits, fits-at, fits-from, fits-wide, else-fits, row-fits, then-rows, then-read, then-fits, and-fits, maybe-fits, many-fits, Bare, token-bare, test-bare, bare-fits, bare-and, gap-bare, line-bare, empty-bare, account-bare, currency-bare, byte-bare, string-and}
+use Rattle.amount.proofs.RowCounts.{Kinds, partKinds, metaKinds, unset, day, flagged, Filled, named-filled, valued-filled, placed-wide, Holds, FitsFrom, Fits, to-fits, fits-at, fits-from, fits-wide, else-fits, row-fits, then-rows, then-read, then-fits, and-fits, maybe-fits, many-fits, Bare, token-bare, test-bare, bare-fits, bare-and, gap-bare, line-bare, empty-bare, account-bare, currency-bare, byte-bare, quoted-fits}
 use Rattle.amount.proofs.AmountFew.{amount-fits}
-use Rattle.posting.specs.Metadata.{key, quoted, value, metaLine, metaStep, metadata}
-use Rattle.posting.specs.Costs.{price, comma, Lot, inside, cost}
+use Rattle.posting.specs.Metadata.{key, value, metaLine, metaStep, metadata}
+use Rattle.posting.specs.Costs.{price, Lot, inside, cost}
 use Rattle.posting.specs.Postings.{isFlag, flag, postingFlag, units, postingLine, posting, bodyStep, body}
-use Rattle.posting.proofs.PostingEnds.{key-reach, value-reach, meta-step-reach, comma-reach, inside-reach, cost-reach, optional-reach, spaced-reach, posting-flag-reach, units-reach, posting-line-reach, body-step-reach}
+use Rattle.posting.proofs.PostingEnds.{key-reach, value-reach, meta-step-reach, inside-reach, cost-reach, optional-reach, spaced-reach, posting-flag-reach, units-reach, posting-line-reach, body-step-reach}
 
 module _ (s : List ℕ) where
   abbrev N : ℕ
@@ -46,15 +46,11 @@ module _ (s : List ℕ) where
 
   -- ---- rule 16
 
-  pub quoted-fits : {K : Kinds} (row : ℕ → ℕ → Detail) (k at : ℕ) → (midLine s (at + 1) ≡ 1 → (e : ℕ) → at + 1 ≤ e → e ≤ N → Rising K s k e (row (at + 1) (e - 1) ∷ [])) → k ≤ at → FitsFrom K s k (quoted row s at)
-  unfolding quoted
-  quoted-fits row k at f h = string-and s N k at _ (λ m e p q. to-fits k e _ (f m e p q, omega arith)) (string-reach s at)
-
   -- a metadata row spans its key
   pub value-fits : (k c at : ℕ) → k ≤ at → c ≤ at → FitsFrom metaKinds s k (value k c s at)
   unfolding value
   value-fits k c at h g =
-      else-fits k _ _ (quoted-fits (named 35 k c) k at (λ m e p q. (omega arith, named-filled (λ z. omega arith) (omega arith) (omega arith), omega arith)) h)
+      else-fits k _ _ (quoted-fits s (named 35 k c) k at (λ m e p q. (omega arith, named-filled (λ z. omega arith) (omega arith) (omega arith), omega arith)) h)
       (else-fits k _ _
       (then-read N (at + 1) k (expression s at) _ (expression-reach s at) (λ e v w p q.
       row-fits k e _ (valued-filled (λ z. omega arith) (omega arith) q (read-small s at e v w)) (omega arith)))
@@ -96,15 +92,6 @@ module _ (s : List ℕ) where
       fits-from j at _ (omega arith) (spaced-fits (amount 30 s) (λ i. amount-fits s 30 i (omega arith)) j q₂))))
 
   -- ---- rule 13
-
-  pub comma-bare : (at : ℕ) → Bare (comma s at)
-  unfolding comma _and_ more
-  comma-bare at = on (byte 44 s (blanks s at)) (byte-bare s (blanks s at) 44)
-    where
-      on : (a : Rows) → Bare a → Bare (a and λ i. To (blanks s i) [])
-      on (To j xs) b = rw (b .none) (record { none = refl })
-      on Miss b = b
-      on (Hard k p) b = b
 
   abbrev pub held : Lot → List Detail
   held l = l .rows

@@ -20,7 +20,7 @@ use Rattle.posting.specs.Postings.{postingFlag, units, postingLine, post
 use Rattle.posting.proofs.PostingEnds.{optional-reach, units-reach, posting-flag-reach, posting-line-reach}
 use Rattle.posting.proofs.PostingFew.{line-fits, metadata-fits, units-fits}
 use Rattle.posting.proofs.PostingAgree.{sure-body}
-use Rattle.posting.proofs.ManyLaws.{many-miss, many-hard, many-ends, many-on}
+use Rattle.row.proofs.ManyLaws.{many-miss, many-hard, many-ends, many-on}
 use Rattle.posting.proofs.BodyWrites.{body-stepping}
 
 -- ---- details that are no postings

@@ -16,14 +16,14 @@ use Rattle.text.specs.Leaves.{token, string}
 use Rattle.text.specs.declared.Read.{Read}
 use Rattle.text.proofs.TestLaws.{absurd-bool}
 use Rattle.text.proofs.StringSame.{within, string-cut, string-stays}
-use Rattle.text.proofs.InLine.{starts, start-not}
+use Rattle.text.proofs.InLine.{start-not}
 use Rattle.text.proofs.Alike.{upto}
 use Rattle.text.proofs.SharedLines.{step}
 use Rattle.text.proofs.TextCut.{xs, ys, s, cut, seam}
+use Rattle.text.specs.Boundaries.{isStart}
 use Rattle.amount.specs.declared.detail.Detail.{Detail}
-use Rattle.amount.specs.Details.{span, named}
+use Rattle.amount.specs.Details.{span, named, quoted}
 use Rattle.row.specs.Strings.{counted}
-use Rattle.posting.specs.Metadata.{quoted}
 use Rattle.posting.proofs.Agree.{tornBy, torn, Agrees, misses, reads, crosses}
 
 -- ---- a string starts and ends with a quote
@@ -84,7 +84,7 @@ module _ (n k lo hi : ℕ) (p : lo < n) (q : n < hi) where
 
 -- ---- the two readings of a string
 
-module _ (front t : List ℕ) (b : ℕ) (B : starts b ≡ true) where
+module _ (front t : List ℕ) (b : ℕ) (B : isStart b ≡ true) where
   abbrev X : List ℕ
   X = xs front t b B
 
@@ -94,7 +94,7 @@ module _ (front t : List ℕ) (b : ℕ) (B : starts b ≡ true) where
   abbrev M : ℕ
   M = length X
 
-  no-quote : starts b ≡ true → getD S M 0 ≡ 34 → ⊥
+  no-quote : isStart b ≡ true → getD S M 0 ≡ 34 → ⊥
   unfolding isDigit isSmall
   no-quote h e = absurd-bool (sym (start-not b 34 h refl) ∙ ap (λ z. eqb z 34) (sym (seam front t b B) ∙ e))
 

@@ -1,4 +1,5 @@
 pub mod Metadata
 pub mod Costs
 pub mod Postings
+pub mod Opened
 pub mod steps

@@ -1,17 +1,16 @@
 -- Rule 16. Metadata (H): any number of lines of gap, key, `:`, gap, value, line end, and of empty or comment lines.
-use Prim.Native.Nat.{ℕ, suc, _+_, _-_}
+use Prim.Native.Nat.{ℕ, suc, _+_}
 use Prim.Native.Char.{code}
 use mathlib.Core.Bool.{cond}
 use mathlib.Core.List.{List, [], _∷_}
 use lib.ListN.{length, getD}
 use Rattle.text.specs.Bytes.{isSmall, inTag}
 use Rattle.text.specs.Run.{runTo}
-use Rattle.text.specs.Answer.{Ans, To, Miss, Hard, _then_, _and_, _else_, many}
-use Rattle.text.specs.Leaves.{gap, currency, string, byte, lineEnd, emptyLine}
+use Rattle.text.specs.Answer.{To, Miss, _then_, _and_, _else_, many}
+use Rattle.text.specs.Leaves.{gap, currency, byte, lineEnd, emptyLine}
 use Rattle.text.specs.declared.Read.{Read}
 use Rattle.amount.specs.Kinds.{stringMetaKind, numberMetaKind, currencyMetaKind}
-use Rattle.amount.specs.declared.detail.Detail.{Detail}
-use Rattle.amount.specs.Details.{Rows, named, valued}
+use Rattle.amount.specs.Details.{Rows, named, valued, quoted}
 use Rattle.amount.specs.Expression.{expression}
 
 -- Key: small letter, then letters, digits, `-`, `_`.
@@ -20,10 +19,6 @@ keyAt s at = cond (isSmall (getD s at 0)) (Read.To (runTo inTag s (at + 1))) Rea
 
 unfoldable pub key : List ℕ → ℕ → Rows
 key s at = Rattle.text.specs.Leaves.token (keyAt s at)
-
--- a string's row, of the places of its content
-unfoldable pub quoted : (ℕ → ℕ → Detail) → List ℕ → ℕ → Rows
-quoted row s at = string s at and λ e. To e (row (at + 1) (e - 1) ∷ [])
 
 -- Value: string, expression or currency, tried so. The key's span is k to c.
 unfoldable pub value : ℕ → ℕ → List ℕ → ℕ → Rows

@@ -21,7 +21,7 @@ ghost use Rattle.row.specs.Row.{pourAt};
 ghost use Rattle.row.specs.Details.{laid};
 ghost use Rattle.row.specs.steps.Writing.{Did, outs, Writable};
 ghost use Rattle.posting.specs.Costs.{price, inside, cost};
-ghost use Rattle.posting.specs.steps.Lots.{commaAt, braceAt, lotOf, gapAmount, amountDate, dateAmount, alone, dateFirst, optionalPrice, optionalCost};
+ghost use Rattle.posting.specs.steps.Lots.{braceAt, lotOf, gapAmount, amountDate, dateAmount, alone, dateFirst, optionalPrice, optionalCost};
 
 fn gap_amount(s: &[u8], at: usize, kind: usize) -> One
     ensures { λ r. ⌜ r ≡ oneOf (gapAmount kind (now (s .entry)) at) ⌝ }
@@ -70,30 +70,11 @@ pub fn optional_price(s: &[u8], at: usize, base: usize, table: &mut [u8], out: O
     }
 }
 
-// A comma, with blanks around.
-pub fn comma_at(s: &[u8], at: usize) -> Read
-    ensures { λ r. ⌜ r ≡ commaAt (now (s .entry)) at ⌝ }
-{
-    let b = run::run(s, at, Class::Blank);
-    if b < s.len() {
-        if s[b] == b',' {
-            return Read::To(run::run(s, b + 1, Class::Blank));
-        }
-    }
-    Read::Miss
-}
-
 // What stands in a cost's braces: the end, the date or 0, the amount or no row.
 pub enum Lot {
     Read(usize, usize, Detail),
     Miss,
     Hard(usize, usize),
-}
-
-fn wide(n: u32) -> usize
-    ensures { λ r. ⌜ r ≡ n ⌝ }
-{
-    n as usize
 }
 
 // After an amount: comma, date.
@@ -102,12 +83,12 @@ fn amount_date(s: &[u8], a: One) -> Lot
 {
     match a {
         One::Read(e, n) => {
-            let c = comma_at(s, e);
+            let c = line::comma_at(s, e);
             match c {
                 Read::To(f) => {
                     let d = date::date(s, f);
                     match d {
-                        Dated::On(g, y) => Lot::Read(g, wide(y), n),
+                        Dated::On(g, y) => Lot::Read(g, date::wide_date(y), n),
                         Dated::Miss => Lot::Miss,
                     }
                 }
@@ -125,12 +106,12 @@ fn date_amount(s: &[u8], d: Dated) -> Lot
 {
     match d {
         Dated::On(e, y) => {
-            let c = comma_at(s, e);
+            let c = line::comma_at(s, e);
             match c {
                 Read::To(f) => {
                     let a = amounts::amount_at(s, f, kind::AMOUNT);
                     match a {
-                        One::Read(g, n) => Lot::Read(g, wide(y), n),
+                        One::Read(g, n) => Lot::Read(g, date::wide_date(y), n),
                         One::Miss => Lot::Miss,
                         One::Hard(k, p) => Lot::Hard(k, p),
                     }
@@ -149,7 +130,7 @@ fn alone_at(at: usize, a: One, d: Dated) -> Lot
     match a {
         One::Read(e, n) => Lot::Read(e, 0, n),
         One::Miss => match d {
-            Dated::On(e, y) => Lot::Read(e, wide(y), detail::none()),
+            Dated::On(e, y) => Lot::Read(e, date::wide_date(y), detail::none()),
             Dated::Miss => Lot::Read(at, 0, detail::none()),
         },
         One::Hard(k, p) => Lot::Hard(k, p),

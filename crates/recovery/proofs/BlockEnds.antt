@@ -1,5 +1,5 @@
 -- Where a block ends, and the code that looks for it at line starts alone.
-use Prim.Native.Nat.{ℕ, suc, _+_, _≤_, _<_, zero-le}
+use Prim.Native.Nat.{ℕ, suc, _+_, _≤_, _<_}
 use native.Mathlib.Nat.{add-zero}
 use native.Mathlib.Omega.{arith}
 use mathlib.Core.Path.{_≡_, sym, _∙_}
@@ -11,22 +11,8 @@ use lib.ListN.{length, getD, drop, drop-of-length-le}
 use Rattle.text.specs.Bytes.{isDigit, isSmall, inLine}
 use Rattle.text.specs.Run.{runTo}
 use Rattle.text.proofs.Steps.{drop-step, head-drop, run-same, run-out}
-use Rattle.row.specs.Strings.{isStart, cuts}
+use Rattle.text.specs.Boundaries.{isStart, cuts}
 use Rattle.recovery.specs.Recovering.{blockLength}
-
-cond-le : (t : Bool) {n m : ℕ} → n ≤ m → cond t 0 n ≤ m
-cond-le true h = zero-le
-cond-le false h = h
-
-pub block-le : (s : List ℕ) → blockLength s ≤ length s
-unfolding blockLength
-block-le [] = zero-le
-block-le (b ∷ s) = omega (arith, cond-le (cuts b (getD s 0 0)) (block-le s))
-
-pub block-some : (s : List ℕ) → 0 < length s → 0 < blockLength s
-unfolding blockLength
-block-some [] h = h
-block-some (b ∷ s) h = omega arith
 
 -- ---- from a place on
 

@@ -11,7 +11,7 @@ use lib.ListN.{length, getD, take, drop, length-append, length-take, length-drop
 use lib.Seq.{take-append-le, drop-append-le, getD-drop}
 use Rattle.text.proofs.TestLaws.{absurd-bool, or-left, or-right}
 use Rattle.row.specs.Row.{feeds}
-use Rattle.row.specs.Strings.{isStart, cuts, holds}
+use Rattle.text.specs.Boundaries.{isStart, cuts, holds}
 use Rattle.entry.proofs.EntryCut.{Ends}
 use Rattle.entry.proofs.HeldLaws.{start-zero}
 use Rattle.ledger.specs.Strict.{partBy}

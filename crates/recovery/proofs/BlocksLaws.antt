@@ -19,7 +19,7 @@ use Rattle.ledger.specs.steps.Scan.{withLine}
 use Rattle.ledger.proofs.PlainLaws.{Kept, kept-append}
 use Rattle.recovery.specs.Recovering.{blockLength, blockRows, recoverBy}
 use Rattle.recovery.specs.steps.Front.{unlinedBlock, unlined, Front}
-use Rattle.recovery.proofs.BlockEnds.{block-le, block-some}
+use Rattle.recovery.proofs.BlockLaws.{block-le, block-some, recover-nil, recover-step as block-step}
 use Rattle.recovery.proofs.BlockRows.{block-kept, block-unlined}
 use Rattle.recovery.proofs.FrontLaws.{front-then}
 
@@ -38,14 +38,7 @@ length-block s = length-take-le (blockLength s) s (block-le s)
 module _ (K : Profile) where
   pub recover-step : (f a l : ℕ) (s : List ℕ) → 0 < length s
       → recoverBy K (suc f) a l s ≡ blockRows a l (length (firstBlock s)) (partBy K (firstBlock s)) ++ recoverBy K f (a + blockLength s) (l + feeds (firstBlock s)) (behind s)
-  unfolding recoverBy
-  recover-step f a l [] h = absurd (omega arith)
-  recover-step f a l (b ∷ s) h = rw (length-block (b ∷ s))
-
-  pub recover-nil : (f a l : ℕ) → recoverBy K f a l [] ≡ []
-  unfolding recoverBy
-  recover-nil zero a l = refl
-  recover-nil (suc f) a l = refl
+  recover-step f a l s h = rw (length-block s) (block-step K f a l s h)
 
   kept-step : (f a l : ℕ) (s : List ℕ) → 0 < length s → ((b m : ℕ) (z : List ℕ) → Kept (suc refusalKind) b (m + 1) z (recoverBy K f b m z))
       → Kept (suc refusalKind) a (l + 1) s (recoverBy K (suc f) a l s)
@@ -100,7 +93,7 @@ module _ (K : Profile) where
     all-rows =
         ap (map (withLine 0))
         (sym (append-nil (g .rows))
-        ∙ ap (λ ys. g .rows ++ ys) (sym (ap (recoverBy K (g .fuel) at (g .line)) (drop-of-length-le s {i = at} h) ∙ recover-nil (g .fuel) at (g .line)))
+        ∙ ap (λ ys. g .rows ++ ys) (sym (ap (recoverBy K (g .fuel) at (g .line)) (drop-of-length-le s {i = at} h) ∙ recover-nil K (g .fuel) at (g .line)))
         ∙ sym (g .rest))
 
     pub cut-count : n ≡ length (unlined K s)

@@ -8,7 +8,7 @@ use borrow.Author.Tests.{le-leb, eqb-true}
 use lib.ListN.{length, getD}
 use Rattle.text.proofs.TestLaws.{absurd-bool}
 use Rattle.text.specs.Permitted.{sizeLimit}
-use Rattle.row.specs.Strings.{isStart}
+use Rattle.text.specs.Boundaries.{isStart}
 use Rattle.entry.proofs.EntryCut.{Ends}
 use Rattle.ledger.specs.Plain.{accepted}
 use Rattle.ledger.specs.declared.scan.Profile.{Profile}

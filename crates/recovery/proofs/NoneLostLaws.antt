@@ -15,16 +15,16 @@ use Rattle.text.specs.Permitted.{clean, sizeLimit}
 use Rattle.text.proofs.TestLaws.{absurd-bool}
 use Rattle.row.specs.declared.table.Row.{Row}
 use Rattle.row.specs.Row.{rowOf, feeds}
-use Rattle.row.specs.Strings.{cuts}
+use Rattle.text.specs.Boundaries.{cuts}
 use Rattle.row.proofs.PourLaws.{le-or-lt}
 use Rattle.entry.specs.Entry.{detailRow, rowsOf, Reads, got, refuse, entryOf}
 use Rattle.entry.proofs.EntryForms.{entry-form, entry-sound}
 use Rattle.entry.proofs.EntryTold.{form-kind-low, digit-kind}
-use Rattle.ledger.specs.Plain.{move, moved, Reading, accepted, denied, after, readFrom, partAt, part}
+use Rattle.ledger.specs.Plain.{move, moved, Reading, accepted, denied, readFrom, partAt, part}
 use Rattle.ledger.specs.Strict.{lostLine, objection, partBy}
 use Rattle.ledger.specs.Strictness.{Passes}
 use Rattle.ledger.specs.declared.scan.Profile.the-variants.{Strict}
-use Rattle.ledger.proofs.PlainLaws.{read-got, read-refuse}
+use Rattle.ledger.proofs.PlainLaws.{read-got, read-refuse, after-accepted}
 use Rattle.recovery.specs.Recovering.{blockLength, blockRows, recoverBy, recoveredBy}
 use Rattle.recovery.specs.NoneLost.{DigitLine, NoneRefused, DirectiveAt, NoneLost}
 use Rattle.recovery.proofs.BlockLaws.{block-le, block-some, recover-step}
@@ -75,10 +75,6 @@ none-parts (x ∷ xs) ys (h, hs) = let k = none-parts xs ys hs in ((h, k .0), k 
 
 -- ---- the first entry of a text that starts with a digit
 
-after-accepted : (ds : List Row) (w : Reading) (us : List Row) → after ds w ≡ accepted us → (ws : List Row) × (us ≡ ds ++ ws)
-after-accepted ds (accepted ws) us e = (ws, (let z : ds ++ ws ≡ us = cc in sym z))
-after-accepted ds (denied k p) us e = absurd (let z : _≡_ {A = ℕ} 0 1 = cc in omega arith)
-
 module _ (x : List ℕ) (h : 0 < length x) (d : isDigit (getD x 0 0) ≡ true) where
   -- the row of a blank entry there is refused
   own-row : (n k dt q : ℕ) → 0 < n → Passes x (move 0 1 (rowOf k 0 n 0 dt q (pos 0)) ∷ []) → k ≡ 1 → ⊥
@@ -99,7 +95,7 @@ module _ (x : List ℕ) (h : 0 < length x) (d : isDigit (getD x 0 0) ≡ true) w
           let k = z .0 .kind in
           let s = entry-sound x n rs q in
           let w = after-accepted (moved 0 1 rs) (readFrom f (0 + n) (1 + feeds (take n x)) (drop n x)) us (sym (read-got f 0 1 x n rs h q) ∙ e) in
-          let all : us ≡ moved 0 1 (rowsOf x n (z .0)) ++ w .0 = w .1 ∙ ap (λ y. moved 0 1 y ++ w .0) (z .2) in
+          let all : us ≡ moved 0 1 (rowsOf x n (z .0)) ++ w .0 = w .2 ∙ ap (λ y. moved 0 1 y ++ w .0) (z .2) in
           let own = subst (Passes x) all p in
           record {
             before = [];

@@ -2,16 +2,15 @@
 use Prim.Native.Nat.{ℕ, _≤_, _<_}
 use native.Mathlib.Omega.{arith}
 use mathlib.Core.Path.{_≡_, refl, sym, _∙_, ap, subst}
-use mathlib.Core.Bool.{Bool, true, false, cond}
+use mathlib.Core.Bool.{true}
 use mathlib.Core.List.{List, [], _∷_, _++_}
-use borrow.Author.Tests.{le-leb, leb-true}
-use lib.Dec.{leb}
+use borrow.Author.Tests.{le-leb}
 use lib.ListN.{length, getD}
 use Rattle.text.specs.Permitted.{clean, sizeLimit}
 use Rattle.amount.proofs.RowCounts.{refusalKind}
 use Rattle.row.specs.declared.table.Row.{Row}
 use Rattle.row.specs.Row.{feeds}
-use Rattle.row.specs.Strings.{isStart}
+use Rattle.text.specs.Boundaries.{isStart}
 use Rattle.entry.specs.Lost.{whole}
 use Rattle.entry.proofs.EntryCut.{Ends}
 use Rattle.ledger.specs.Plain.{moved, accepted, denied, readFrom, partAt, part, plain}
@@ -19,7 +18,7 @@ use Rattle.ledger.specs.Strict.{firstRefused, judged, partBy, readingBy}
 use Rattle.ledger.specs.declared.scan.Profile.{Profile}
 use Rattle.ledger.specs.declared.scan.Profile.the-variants.{Plain, Strict}
 use Rattle.ledger.proofs.PlainLaws.{Kept, part-kept}
-use Rattle.ledger.proofs.ReadLaws.{judged-rows}
+use Rattle.ledger.proofs.ReadLaws.{judged-rows, plain-reads}
 use Rattle.ledger.specs.Strictness.{Passes}
 use Rattle.ledger.proofs.PassLaws.{passes-all, all-pass, passes-parts, passes-first, passes-second}
 use Rattle.recovery.proofs.ReadingCut.{part-cut}
@@ -66,17 +65,9 @@ by-part Plain s h = plain-part s h
 by-part Strict s h = ap (judged s) (plain-part s h)
 
 -- a larger ledger is refused
-plain-size : (s : List ℕ) (rs : List Row) → plain s ≡ accepted rs → length s ≤ sizeLimit
-unfolding plain
-plain-size s rs e = go (leb (length s) sizeLimit) refl e
-  where
-    go : (t : Bool) → leb (length s) sizeLimit ≡ t → cond t (part s) (denied 1 0) ≡ accepted rs → length s ≤ sizeLimit
-    go true q e = leb-true (length s) sizeLimit q
-    go false q e = absurd (let z : _≡_ {A = ℕ} 0 1 = cc in omega arith)
-
 pub by-size : (K : Profile) (s : List ℕ) (rs : List Row) → readingBy K s ≡ accepted rs → length s ≤ sizeLimit
-by-size Plain s rs e = plain-size s rs e
-by-size Strict s rs e = plain-size s rs (judged-rows s (plain s) rs e)
+by-size Plain s rs e = plain-reads s rs e .0
+by-size Strict s rs e = plain-reads s rs (judged-rows s (plain s) rs e) .0
 
 -- ---- cut at a boundary that no string holds
 

@@ -1,6 +1,6 @@
 -- Plain reading of a text that it accepts, cut at a boundary that none of its strings holds: both parts are accepted, and the rows are those of the first and, moved,
 -- those of the second.
-use Prim.Native.Nat.{ℕ, zero, suc, _+_, _-_, _<_, _≤_, zero-le}
+use Prim.Native.Nat.{ℕ, zero, suc, _+_, _-_, _<_, _≤_}
 use native.Mathlib.Nat.{add-zero, zero-add, add-comm}
 use native.Mathlib.Omega.{arith}
 use mathlib.Core.Path.{_≡_, refl, sym, ap, subst, _∙_}
@@ -13,7 +13,7 @@ use lib.Seq.{take-append-le, drop-append-le, drop-drop}
 use Rattle.text.specs.Permitted.{permitted, clean}
 use Rattle.row.specs.declared.table.Row.{Row}
 use Rattle.row.specs.Row.{feeds}
-use Rattle.row.specs.Strings.{isStart}
+use Rattle.text.specs.Boundaries.{isStart}
 use Rattle.entry.specs.Entry.{Reads, got, refuse, entryOf}
 use Rattle.entry.specs.Lost.{whole}
 use Rattle.entry.proofs.EntryCut.{Ends, entry-cut}
@@ -21,9 +21,10 @@ use Rattle.entry.proofs.EntryForms.{entry-sound}
 use Rattle.entry.proofs.HeldLaws.{whole-append}
 use Rattle.ledger.specs.Plain.{moved, Reading, accepted, denied, after, readFrom, partAt, part}
 use Rattle.ledger.specs.steps.Scan.{movedReading}
-use Rattle.ledger.proofs.PlainLaws.{read-nil, read-got, read-refuse}
+use Rattle.ledger.proofs.PlainLaws.{read-nil, read-got, read-refuse, after-accepted}
 use Rattle.ledger.proofs.MoveLaws.{after-none, after-after, read-move, read-bound}
 use Rattle.ledger.proofs.WholeMoved.{whole-moved}
+use Rattle.text.proofs.PlainLaws.{clean-le}
 use Rattle.recovery.proofs.BlockLaws.{ends-drop, feeds-parts}
 
 -- ---- entries
@@ -37,10 +38,6 @@ join-after : (ds : List Row) (v w : Reading) → join (after ds v) w ≡ after d
 join-after ds (accepted rs) w = sym (after-after ds rs w)
 join-after ds (denied n p) w = refl
 
-after-cases : (ds : List Row) (w : Reading) (rs : List Row) → after ds w ≡ accepted rs → (vs : List Row) × (w ≡ accepted vs) × (rs ≡ ds ++ vs)
-after-cases ds (accepted vs) rs e = (vs, refl, cc)
-after-cases ds (denied n p) rs e = absurd (let z : _≡_ {A = ℕ} 0 1 = cc in omega arith)
-
 module _ (h : ℕ) (y u : List ℕ) (b : isStart (getD y 0 0) ≡ true) where
   -- what is to be shown of a text x that stands at place a of u, before y
   Cut : ℕ → ℕ → ℕ → ℕ → List ℕ → List Row → Type 0
@@ -53,7 +50,7 @@ module _ (h : ℕ) (y u : List ℕ) (b : isStart (getD y 0 0) ≡ true) where
   unfolding Cut
   cut-got f g a l x rs some hf hg ih n ds q e d r w =
       let both : 0 < length (x ++ y) = rw length-append (omega arith) in
-      let c = after-cases (moved a l ds) (readFrom f (a + n) (l + feeds (take n (x ++ y))) (drop n (x ++ y))) rs (sym (read-got f a l (x ++ y) n ds both q) ∙ r) in
+      let c = after-accepted (moved a l ds) (readFrom f (a + n) (l + feeds (take n (x ++ y))) (drop n (x ++ y))) rs (sym (read-got f a l (x ++ y) n ds both q) ∙ r) in
       let ww = whole-append u (moved a l ds) (c .0) (subst (λ z. whole u z ≡ true) (c .2) w) in
       let wx : whole (x ++ y) ds ≡ true = ap (λ z. whole z ds) (sym d) ∙ sym (whole-moved u a l ds) ∙ ww .0 in
       let k = entry-cut x y n ds some e b q wx in
@@ -108,15 +105,6 @@ module _ (h : ℕ) (y u : List ℕ) (b : isStart (getD y 0 0) ≡ true) where
   reading-cut x rs hh e d r w = read-cut (length (x ++ y)) (length x) 0 1 x rs (rw length-append (omega arith)) (omega arith) hh e d r w
 
 -- ---- bytes that may all stand
-
-one-more : (t : Bool) (n m : ℕ) → n ≤ m → cond t (suc n) 0 ≤ suc m
-one-more true n m h = omega arith
-one-more false n m h = omega arith
-
-clean-le : (s : List ℕ) → clean s ≤ length s
-unfolding clean
-clean-le [] = zero-le
-clean-le (b ∷ s) = one-more (permitted b (getD s 0 0)) (clean s) (length s) (clean-le s)
 
 pick-suc : (t : Bool) (n m : ℕ) → cond t (suc n) 0 ≡ suc m → (t ≡ true) × (n ≡ m)
 pick-suc true n m e = (refl, omega arith)

@@ -9,7 +9,7 @@ use lib.ListN.{length, drop-of-length-le, length-append}
 use lib.Seq.{take-all}
 use Rattle.text.proofs.TestLaws.{and-left, and-right}
 use Rattle.row.specs.Row.{feeds}
-use Rattle.row.specs.Strings.{holds}
+use Rattle.text.specs.Boundaries.{holds}
 use Rattle.ledger.specs.Plain.{accepted, denied}
 use Rattle.ledger.specs.Strict.{partBy}
 use Rattle.ledger.specs.declared.scan.Profile.{Profile}

@@ -21,6 +21,7 @@ use Rattle.ledger.specs.Answers.{answer, left}
 use Rattle.ledger.proofs.MoveLaws.{moved-moved}
 use Rattle.ledger.proofs.ReadLaws.{rows-stay}
 use Rattle.ledger.proofs.WholeMoved.{whole-moved}
+use Rattle.ledger.proofs.PlainLaws.{accepted-same}
 use Rattle.recovery.specs.Recovering.{blockLength, blockRows, recoverBy, recoveredBy}
 use Rattle.recovery.specs.Demand3.{Given, thenTail, Demand3, Demand3Call, Undamaged}
 use Rattle.recovery.proofs.BlockLaws.{block-le, block-some, block-boundary, recover-nil, recover-step, recover-append}
@@ -31,9 +32,6 @@ behind-whole : (x y : List ℕ) (l : ℕ) (us vs rs : List Row) → rs ≡ us ++
 behind-whole x y l us vs rs e w =
     let k = whole-append (x ++ y) us (moved (length x) l vs) (subst (λ z. whole (x ++ y) z ≡ true) e w) in
     ap (λ z. whole z vs) (sym (drop-append-seam x y)) ∙ sym (whole-moved (x ++ y) (length x) l vs) ∙ k .1
-
-accepted-same : (ps qs : List Row) → accepted ps ≡ accepted qs → ps ≡ qs
-accepted-same ps qs e = cc
 
 module _ (K : Profile) where
   -- ---- recovering reading of a text that plain reading accepts, none of whose strings holds a boundary, gives its plain rows

@@ -17,7 +17,7 @@ use Rattle.text.specs.Bytes.{isDigit, isSmall}
 use Rattle.text.specs.Permitted.{sizeLimit}
 use Rattle.row.specs.declared.table.Row.{Row}
 use Rattle.row.specs.Row.{rowOf, rowsBytes, width, feeds, room}
-use Rattle.row.specs.Strings.{holds}
+use Rattle.text.specs.Boundaries.{holds}
 use Rattle.entry.specs.Lost.{whole}
 use Rattle.ledger.specs.Plain.{moved, accepted, denied}
 use Rattle.ledger.specs.Strict.{readingBy}

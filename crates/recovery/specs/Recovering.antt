@@ -8,8 +8,8 @@ use lib.ListN.{length, getD, take, drop}
 use Rattle.text.specs.Permitted.{sizeLimit}
 use Rattle.row.specs.declared.table.Row.{Row}
 use Rattle.row.specs.Row.{rowOf, feeds}
-use Rattle.row.specs.Strings.{cuts}
 use Rattle.ledger.specs.Plain.{moved, Reading, accepted, denied}
+use Rattle.text.specs.Boundaries.{cuts}
 use Rattle.ledger.specs.Strict.{partBy}
 use Rattle.ledger.specs.declared.scan.Profile.{Profile}
 use Rattle.ledger.specs.declared.scan.Profile.the-variants.{Plain, Strict}

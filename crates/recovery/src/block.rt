@@ -12,7 +12,7 @@ ghost use mathlib.Core.Path.{_≡_};
 ghost use Prim.Native.Nat.{_+_, _≤_};
 ghost use lib.ListN.{length};
 ghost use Rattle.text.specs.Permitted.{sizeLimit};
-ghost use Rattle.row.specs.Strings.{isStart};
+ghost use Rattle.text.specs.Boundaries.{isStart};
 ghost use Rattle.recovery.specs.Recovering.{blockLength};
 ghost use Rattle.recovery.specs.steps.Front.{unlinedBlock, Front};
 

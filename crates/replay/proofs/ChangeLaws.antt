@@ -6,7 +6,7 @@ use mathlib.Core.List.{List}
 use borrow.Author.Tests.{le-leb, lt-leb}
 use lib.ListN.{length, take, drop}
 use Rattle.edit.specs.Edits.{editing}
-use Rattle.ledger.proofs.ScanLaws.{rest-of}
+use Rattle.text.proofs.Steps.{rest-of}
 use Rattle.lumbrisse.specs.Promises.{TablePromise}
 use Rattle.lumbrisse.specs.declared.reply as box
 use Rattle.replay.specs.declared.case.Case.{Case}

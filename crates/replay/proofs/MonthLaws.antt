@@ -9,7 +9,7 @@ use borrow.Rule.Slice.PartMut.{putMid}
 use lib.ListN.{length, take, drop, length-drop}
 use lib.Seq.{take-all, length-take-le}
 use Rattle.ledger.specs.Plain.{plain}
-use Rattle.ledger.proofs.ScanLaws.{rest-of}
+use Rattle.text.proofs.Steps.{rest-of}
 use Rattle.totals.specs.Totals as totals
 use Rattle.lumbrisse.specs.Promises.{TotalsPromise}
 use Rattle.lumbrisse.specs.declared.reply as box

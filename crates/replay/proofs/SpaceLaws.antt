@@ -8,9 +8,8 @@ use borrow.Author.Tests.{le-leb, lt-leb, ne-eqb}
 use borrow.Rule.Slice.PartMut.{putMid}
 use lib.ListN.{length, getD, take, drop, drop-of-length-le}
 use lib.Seq.{take-at}
-use Rattle.text.proofs.Steps.{drop-step}
+use Rattle.text.proofs.Steps.{drop-step, rest-of}
 use Rattle.access.specs.Tables.{same}
-use Rattle.ledger.proofs.ScanLaws.{rest-of}
 use Rattle.lumbrisse.specs.declared.reply as box
 use Rattle.replay.specs.declared.call.Outcome.{Outcome}
 use Rattle.replay.specs.Replies.{zeros, wiped, ofSpaced}

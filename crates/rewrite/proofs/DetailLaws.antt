@@ -7,8 +7,7 @@ use mathlib.Core.List.{List, [], _∷_, _++_, append-assoc}
 use mathlib.Core.Logic.{⊎-elim}
 use borrow.Author.Tests.{le-ltb, eq-eqb, ne-eqb}
 use lib.Dec.{eqb}
-use Rattle.text.specs.Bytes.{bytes}
-use Rattle.amount.specs.Literal.{between}
+use Rattle.text.specs.Bytes.{bytes, between}
 use Rattle.row.specs.declared.table.Row.{Row}
 use Rattle.row.specs.Details.{spanned}
 use Rattle.row.proofs.PourLaws.{le-or-lt}

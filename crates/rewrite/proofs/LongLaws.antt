@@ -8,10 +8,9 @@ use mathlib.Core.List.{List, [], _∷_, _++_}
 use lib.Dec.{eqb, ltb, leb}
 use lib.ListN.{length, length-append, length-take, length-drop}
 use Rattle.decimal.specs.Exact.{wordLimit, largest, minusFrom}
-use Rattle.text.specs.Bytes.{bytes}
+use Rattle.text.specs.Bytes.{bytes, between}
 use Rattle.text.specs.Permitted.{sizeLimit}
 use Rattle.text.specs.Every.{Every}
-use Rattle.amount.specs.Literal.{between}
 use Rattle.row.specs.declared.table.Row.{Row}
 use Rattle.layout.specs.Meaning.{Item, texted, naming, itemOf, meaning}
 use Rattle.layout.specs.Written.{wholeText, zeros, trimmed, six, fractionText, sizeText, valueText, dateText, quotes, sumText, braceEnd, amountText, metaText, postingText, headText, detailText, closing, kindOf, printed, noItem, written}

@@ -2,14 +2,14 @@
 use Prim.Native.Nat.{ℕ, zero, suc, _+_, _-_, _/_, _%_, _≤_, _<_, _^_}
 use native.Mathlib.Omega.{arith}
 use mathlib.Core.Path.{_≡_, refl, sym, _∙_, ap, subst}
-use mathlib.Core.Bool.{Bool, true, false, _&&_}
+use mathlib.Core.Bool.{false, _&&_, and-false}
 use mathlib.Core.List.{List, [], _∷_, _++_}
 use borrow.Author.Tests.{le-leb, lt-leb, lt-ltb, le-ltb, ne-eqb}
 use lib.Dec.{eqb}
 use lib.ListN.{length, getD, take}
 use lib.Seq.{take-suc, take-length}
 use Rattle.decimal.specs.Exact.{wordLimit, largest, minusFrom}
-use Rattle.amount.specs.Literal.{between}
+use Rattle.text.specs.Bytes.{between}
 use Rattle.layout.specs.Written.{digit, wholeText, zeros, trimmed, six, fractionText, sizeText, valueText, dateText}
 use Rattle.rewrite.specs.steps.Putting.{Put, Kept}
 use Rattle.rewrite.proofs.PutLaws.{put-none, join}
@@ -48,10 +48,6 @@ trimmed-zero : (l : List ℕ) → trimmed (l ++ (48 ∷ [])) ≡ trimmed l
 unfolding trimmed zeros
 trimmed-zero [] = refl
 trimmed-zero (b ∷ l) = rw (zeros-zero l, trimmed-zero l)
-
-and-false : (b : Bool) → (b && false) ≡ false
-and-false true = refl
-and-false false = refl
 
 zeros-other : (l : List ℕ) (b : ℕ) → (b ≡ 48 → ⊥) → zeros (l ++ (b ∷ [])) ≡ false
 unfolding zeros

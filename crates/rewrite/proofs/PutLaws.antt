@@ -1,14 +1,12 @@
 -- Bytes put at a place.
 use Prim.Native.Nat.{ℕ, zero, suc, _+_, _-_, _*_, _^_, _≤_, _<_, min}
-use native.Mathlib.Nat.{add-zero}
-use native.Mathlib.Numerals.{add-one}
 use native.Mathlib.Omega.{arith}
 use mathlib.Core.Path.{_≡_, refl, sym, _∙_, ap, subst}
 use mathlib.Core.List.{List, [], _∷_, _++_}
-use lib.ListN.{length, getD, set, take, drop, length-set, length-append, length-drop, drop-of-length-le}
-use lib.Seq.{take-suc, take-all}
+use lib.ListN.{length, set, take, drop, length-set, length-append, length-drop, drop-of-length-le}
+use lib.Seq.{take-all, sets, length-sets}
 use Rattle.decimal.specs.Exact.{largest}
-use Rattle.amount.specs.Literal.{between}
+use Rattle.text.specs.Bytes.{between}
 use Rattle.row.proofs.FieldLaws.{sets-append}
 use Rattle.rewrite.specs.steps.Putting.{Put}
 
@@ -44,23 +42,10 @@ two-put p k = join p k
 
 pub ruleset put-laws = (put-in, put-out, two-put)
 
--- ---- a text with room for all of it, byte by byte: what stands before i is put
+-- ---- a text with room for all of it
 
-pub copy-start : (t c : List ℕ) (at : ℕ) → Put t at (take 0 c) t (at + 0)
-copy-start t c at = rw (add-zero at) (put-none t at)
-
-module _ (t c : List ℕ) (at i : ℕ) (u : List ℕ) (p : Put t at (take i c) u (at + i)) where
-  pub copy-on : i < length c → at + length c ≤ length t → length t * 1 < 2 ^ 63 → Put t at (take (i + 1) c) (set u (at + i) (getD c i 0)) (at + (i + 1))
-  copy-on h l z =
-      let y : at + i + 1 ≡ at + (i + 1) = omega arith in
-      let s = p .same in
-      let k = put-in u (at + i) (getD c i 0) (omega arith) (omega arith) in
-      subst (λ (r : ℕ). Put t at (take (i + 1) c) (set u (at + i) (getD c i 0)) r) y (rw (add-one i, take-suc c i 0 h) (join p k))
-
-  pub copy-end : length c ≤ i → Put t at c u (at + i)
-  copy-end h = subst (λ (x : List ℕ). Put t at x u (at + i)) (take-all i c h) p
-
-pub ruleset whole-laws = (copy-start, copy-on, copy-end)
+pub copy-put : (t c u : List ℕ) (at : ℕ) → at + length c ≤ length t → length t * 1 < 2 ^ 63 → u ≡ sets t at c → Put t at c u (at + length c)
+copy-put t c u at h l e = record { bytes = λ _ _. e; next = λ _. omega arith; same = ap length e ∙ length-sets t at c }
 
 -- no room for it
 pub copy-past : (t c : List ℕ) (at r : ℕ) → length t < at → r ≡ min (at + length c) largest → Put t at c t r
@@ -69,7 +54,7 @@ copy-past t c at r h e = record { bytes = λ k _. absurd (omega arith); next = �
 pub copy-long : (t c : List ℕ) (at r : ℕ) → at ≤ length t → length t - at < length c → r ≡ min (at + length c) largest → Put t at c t r
 copy-long t c at r h l e = record { bytes = λ k _. absurd (omega arith); next = λ _. e; same = refl }
 
-pub ruleset copy-laws = (copy-past, copy-long)
+pub ruleset copy-laws = (copy-past, copy-long, copy-put)
 
 -- ---- a span
 

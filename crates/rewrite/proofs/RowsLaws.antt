@@ -10,14 +10,15 @@ use mir.Syntax.{w64}
 use mir.Val.{Fits}
 use lib.Dec.{ltb, leb}
 use lib.ListN.{length, take, drop}
-use lib.Seq.{sets, sets-eq, drop-drop}
+use lib.Seq.{drop-drop}
 use Rattle.decimal.specs.Exact.{largest}
 use Rattle.row.specs.declared.table.Row.{Row}
 use Rattle.row.specs.Row.{rowIn, rowsIn, width}
 use Rattle.row.specs.Details.{spanned}
-use Rattle.ledger.proofs.ScanLaws.{rest-of}
+use Rattle.text.proofs.Steps.{rest-of}
 use Rattle.layout.specs.Meaning.{Item, texted, naming, itemOf, meaning}
 use Rattle.layout.specs.Written.{headText, detailText, closing, kindOf, printed, noItem}
+use Rattle.row.proofs.FieldLaws.{sets-front}
 use Rattle.rewrite.specs.declared.write.Answer.{Answer}
 use Rattle.rewrite.specs.steps.Putting.{Put}
 use Rattle.rewrite.specs.steps.Pieces.{noRow, front, Flagged, AllFlagged, pieceText, kindNow}
@@ -173,9 +174,6 @@ pub ruleset rows-laws = (rows-room, rows-start, rows-end, rows-flagged, place-fi
 
 -- ---- the two passes
 
-front-put : (w t : List ℕ) → length w ≤ length t → sets t 0 w ≡ w ++ drop (length w) t
-front-put w t h = rw (zero-add (length w)) at (sets-eq w t 0 (rw (zero-add (length w)) h))
-
 module _ (w o a b : List ℕ) (need : ℕ) (p : Put a 0 w b need) where
   need-is : need ≡ min (length w) largest
   need-is = p .next (omega arith) ∙ rw (zero-add (length w))
@@ -190,6 +188,6 @@ module _ (w o a b : List ℕ) (need : ℕ) (p : Put a 0 w b need) where
       let e : need ≡ length w = omega (arith, need-is) in
       let l : length w ≤ length o = omega arith in
       let q : leb (length w) (length o) ≡ true = le-leb (length w) (length o) l in
-      record { answer = rw (q, e); left = k .bytes (omega arith) (omega arith) ∙ front-put w o l ∙ rw q }
+      record { answer = rw (q, e); left = k .bytes (omega arith) (omega arith) ∙ sets-front w o l ∙ rw q }
 
 pub ruleset pour-laws = (pour-short, pour-all)

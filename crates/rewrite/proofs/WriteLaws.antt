@@ -48,14 +48,11 @@ rows-are w rs h = rows-front rs w ∙ all-whole rs h
 
 -- ---- the answers
 
-plain-size : (s : List ℕ) (rs : List Row) → plain s ≡ accepted rs → length s ≤ sizeLimit
-plain-size s rs e = plain-reads s rs e .0
-
 plain-few : (s : List ℕ) (rs : List Row) → plain s ≡ accepted rs → length rs ≤ sizeLimit
 unfolding scanned
 plain-few s rs e =
     let k : Kept refusalKind 0 1 s rs = subst (Accepts (Kept refusalKind 0 1 s)) (plain-reads s rs e .2) (read-kept (length s) 0 1 s) in
-    omega (arith, plain-size s rs e, k .few)
+    omega (arith, plain-reads s rs e .0, k .few)
 
 -- what plain reading found
 data Found (s w : List ℕ) (a : Got) (v : List ℕ) : Type 0 where
@@ -94,7 +91,7 @@ was-all s o w r u x v rs y l k ex ev h =
     let m : rowsIn (length rs) v ≡ rs = ap (rowsIn (length rs)) ev ∙ rows-are (drop (length rs * width) w) rs h in
     let z : Pours (written s rs) o r u = subst (λ (j : List Row). Pours (written s j) o r u) m k in
     let d : drop (length rs * width) v ≡ drop (length rs * width) w = ap (λ (j : List ℕ). drop (length rs * width) j) ev ∙ drop-at (rowsBytes rs) (drop (length rs * width) w) (length rs * width) (length-rowsBytes rs) in
-    let c : min (length (written s rs)) largest ≡ length (written s rs) = omega (arith, written-le s rs (plain-size s rs y) (plain-few s rs y)) in
+    let c : min (length (written s rs)) largest ≡ length (written s rs) = omega (arith, written-le s rs (plain-reads s rs y .0) (plain-few s rs y)) in
     record { answer = z .answer ∙ rw (y, q, c); output = z .left ∙ rw (y, q); work = ex ∙ rw (d, y, q) }
 
 module _ (s w : List ℕ) (a : Got) (v : List ℕ) (ea : a ≡ answer (plain s) (room w)) (ev : v ≡ left (plain s) w) where

@@ -4,13 +4,13 @@ use crate::put;
 use amount::kind;
 use row::table::Row;
 use row::writer;
+use text::bytes;
 ghost use mathlib.Core.Path.{_≡_};
 ghost use mathlib.Core.Bool.{cond};
 ghost use mathlib.Core.List.{[], _∷_, _++_};
 ghost use Prim.Native.Nat.{_≤_, _<_};
-ghost use Rattle.text.specs.Bytes.{bytes};
+ghost use Rattle.text.specs.Bytes.{bytes, between};
 ghost use Rattle.amount.specs.Kinds.{firstDetail, amountKind, currencyKind};
-ghost use Rattle.amount.specs.Literal.{between};
 ghost use Rattle.layout.specs.Meaning.{itemOf, naming};
 ghost use Rattle.layout.specs.Written.{valueText, quotes, detailText};
 ghost use Rattle.rewrite.specs.steps.Putting.{Put, ended};
@@ -169,13 +169,6 @@ fn money(s: &[u8], prev: Row, x: Row, next: usize, out: &mut [u8], at: usize) ->
     sum(s, x, out, two)
 }
 
-fn low(n: usize) -> u8
-    requires { ⌜ n < 256 ⌝ }
-    ensures { λ r. ⌜ r ≡ n ⌝ }
-{
-    n as u8
-}
-
 // A posting's line: its flag, if it has one, and its account.
 fn posting(s: &[u8], x: Row, out: &mut [u8], at: usize) -> usize
     requires { ⌜ x .p < 256 ⌝ }
@@ -185,7 +178,7 @@ fn posting(s: &[u8], x: Row, out: &mut [u8], at: usize) -> usize
     if x.p == 0 {
         return put::span(s, x.start, x.end, out, one);
     }
-    let two = put::put_two(out, one, low(x.p), b' ');
+    let two = put::put_two(out, one, bytes::narrow(x.p), b' ');
     put::span(s, x.start, x.end, out, two)
 }
 

@@ -1,12 +1,10 @@
 // Bytes put at a place of the output, where there is room for all of them. The place behind them is answered at any
 // rate, so one function counts and writes.
+use row::work;
 ghost use mathlib.Core.Path.{_≡_};
 ghost use mathlib.Core.List.{[], _∷_};
-ghost use Prim.Native.Nat.{_+_, _≤_, min};
-ghost use lib.ListN.{length};
-ghost use Rattle.decimal.specs.Exact.{largest};
-ghost use Rattle.amount.specs.Literal.{between};
 ghost use Rattle.rewrite.specs.steps.Putting.{Put};
+ghost use Rattle.text.specs.Bytes.{between};
 
 // One byte.
 pub fn put(out: &mut [u8], at: usize, b: u8) -> usize
@@ -16,7 +14,7 @@ pub fn put(out: &mut [u8], at: usize, b: u8) -> usize
         out[at] = b;
         return at + 1;
     }
-    further(at, 1)
+    work::add(at, 1)
 }
 
 pub fn put_two(out: &mut [u8], at: usize, a: u8, b: u8) -> usize
@@ -26,40 +24,18 @@ pub fn put_two(out: &mut [u8], at: usize, a: u8, b: u8) -> usize
     put(out, next, b)
 }
 
-// The place n bytes further on, or the largest number.
-fn further(at: usize, n: usize) -> usize
-    ensures { λ r. ⌜ r ≡ min (at + n) largest ⌝ }
-{
-    if n <= usize::MAX - at {
-        return at + n;
-    }
-    usize::MAX
-}
-
-// All of a text, for which there is room.
-fn copy_whole(from: &[u8], out: &mut [u8], at: usize) -> usize
-    requires { ⌜ at + length (now from) ≤ length (now out) ⌝ }
-    ensures { λ r. ⌜ Put (now (out .entry)) at (now (from .entry)) (now (out .exit)) r ⌝ }
-{
-    let mut i = 0;
-    while i < from.len() {
-        out[at + i] = from[i];
-        i += 1;
-    }
-    at + i
-}
-
 // All of a text; where there is no room for it, it is only counted.
 pub fn copy(from: &[u8], out: &mut [u8], at: usize) -> usize
     ensures { λ r. ⌜ Put (now (out .entry)) at (now (from .entry)) (now (out .exit)) r ⌝ }
 {
     if out.len() < at {
-        return further(at, from.len());
+        return work::add(at, from.len());
     }
     if out.len() - at < from.len() {
-        return further(at, from.len());
+        return work::add(at, from.len());
     }
-    copy_whole(from, out, at)
+    work::copy(from, out, at);
+    at + from.len()
 }
 
 // The text of a span.

@@ -3,7 +3,6 @@ use Prim.Native.Nat.{ℕ, _+_}
 use native.Mathlib.Omega.{arith}
 use mathlib.Core.Path.{_≡_, refl, _∙_, ap}
 use mathlib.Core.List.{List, [], _∷_, _++_, map}
-use lib.ListN.{length}
 use Rattle.text.specs.Answer.{To, Miss, Hard, must, _else_, more, _and_, maybe}
 use Rattle.amount.specs.Details.{Rows}
 use Rattle.amount.specs.declared.detail.Detail.{Detail}
@@ -12,14 +11,8 @@ use Rattle.row.specs.Details.{laid}
 use Rattle.row.specs.steps.Writing.{noted, outs, Poured, Did}
 use Rattle.row.specs.declared.writer.Out.{Out}
 use Rattle.row.specs.declared.writer.Ran.{Ran}
-use Rattle.row.proofs.OutLaws.{rows-outs, Wrote, wrote-none, wrote-one, Written, written, written-then, poured-none, poured-drop, poured-past}
+use Rattle.row.proofs.OutLaws.{Wrote, wrote-none, wrote-one, Written, written, written-then, poured-none, poured-drop, poured-past}
 use Rattle.row.proofs.SureLaws.{Sure, sure-to, sure-hard, sures}
-
--- the rows of an answer
-unfoldable pub count : Rows → ℕ
-count (To e ds) = length ds
-count Miss = 0
-count (Hard k p) = 0
 
 -- ---- what is known of an answer
 
@@ -93,13 +86,6 @@ module _ (base : ℕ) (o : Out) (t v : List ℕ) (r : Ran) where
   was-hard (To f ds) k p d h = absurd (let z : _≡_ {A = ℕ} 0 1 = cc in omega arith)
   was-hard Miss k p d h = absurd (let z : _≡_ {A = ℕ} 0 1 = cc in omega arith)
   was-hard (Hard m n) k p d h = cc
-
-  -- so many rows more are there as the answer has
-  pub did-rows : (a : Rows) (e : ℕ) (m : Out) → Did base a o t v r → r ≡ Ran.To e m → m .rows ≡ o .rows + count a
-  unfolding count
-  did-rows a e m d h =
-      let z = was-read a e m d h in
-      omega (arith, ap (λ (x : Out). x .rows) (z .2 .0), rows-outs (z .0) o, ap count (z .1))
 
   -- ---- a, and then g
 

@@ -8,7 +8,7 @@ use native.Mathlib.Omega.{arith}
 use lib.Arith.{mod-mul, digits-div, digits-mod}
 use lib.Dec.{lit<}
 use lib.ListN.{length, getD, take, drop, set}
-use lib.Seq.{sets, drop-cons, getD-drop}
+use lib.Seq.{sets, sets-eq, drop-cons, getD-drop}
 use mir.Syntax.{w8, w64}
 use mir.Val.{Fits}
 use Rattle.row.specs.Field.{le, un, fieldLimit}
@@ -40,6 +40,9 @@ le-add zero j x = rw (zero-add j, div-one x)
 le-add (suc k) j x =
     let e : x / 256 / 256 ^ k ≡ x / 256 ^ suc k = div-div-eq-div-mul x 256 (256 ^ k) ∙ ap (λ (n : ℕ). x / n) (sym (pow-succ' 256 k)) in
     rw (suc-add, le-add k j (x / 256), e)
+
+pub sets-front : (w t : List ℕ) → length w ≤ length t → sets t 0 w ≡ w ++ drop (length w) t
+sets-front w t h = rw (zero-add (length w)) at (sets-eq w t 0 (rw (zero-add (length w)) h))
 
 pub sets-append : (vs ws t : List ℕ) (i : ℕ) → sets t i (vs ++ ws) ≡ sets (sets t i vs) (i + length vs) ws
 sets-append [] ws t i = rw add-zero

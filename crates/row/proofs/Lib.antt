@@ -11,3 +11,5 @@ pub mod OutLaws
 pub mod SureLaws
 pub mod DidLaws
 pub mod TokenLaws
+pub mod ManyLaws
+pub mod SingleLaws

@@ -4,8 +4,7 @@ use mathlib.Core.List.{List, [], _∷_, _++_}
 use Prim.Native.Nat.{ℕ, _+_, _*_, _<_, _≤_}
 use native.Mathlib.Omega.{arith}
 use lib.ListN.{length, take, drop}
-use Rattle.row.specs.Pouring.{pouredAt}
-use Rattle.row.specs.Row.{fieldsWidth, fieldBytes, width, rowBytes, rowsBytes, room, pour, placeOf, pourAt}
+use Rattle.row.specs.Row.{fieldsWidth, fieldBytes, width, rowBytes, rowsBytes, room, pour, pourAt}
 use Rattle.row.specs.declared.table.Row.{Row}
 use Rattle.row.proofs.PouredLaws.{poured-none, poured-short, poured-fits, poured-all, poured-append, poured-head, length-bytesOf, length-poured, length-pouredAt, pouredAt-none, pouredAt-zero, pouredAt-short, pouredAt-at, pouredAt-append, pouredAt-over}
 pub use Rattle.row.proofs.PouredLaws.{le-or-lt}
@@ -76,9 +75,3 @@ pourAt-over = pouredAt-over width rowBytes length-rowBytes
 -- a head row that is written last, before rows that stand behind it
 pub head-last : (r : Row) (rs : List Row) (t : List ℕ) → pour (r ∷ []) (pourAt 1 rs t) ≡ pour (r ∷ rs) t
 head-last = poured-head width rowBytes length-rowBytes
-
--- the same where the place of row 1 is known: the entry's row before its details
-pub head-at : (r : Row) (rs : List Row) (t : List ℕ) (k : ℕ) → k ≡ placeOf 1 (length t)
-    → pour (r ∷ []) (take k t ++ pour rs (drop k t)) ≡ pour (r ∷ rs) t
-unfolding pouredAt
-head-at r rs t k e = rw e (head-last r rs t)

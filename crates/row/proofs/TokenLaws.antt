@@ -36,14 +36,6 @@ module _ (base : ℕ) (o : Out) (t : List ℕ) where
     unfolding _then_
     then-read e z u q h k = rw h k
 
-    pub then-miss : a ≡ Miss → Did base (a then f) o t t Ran.Miss
-    unfolding _then_
-    then-miss h = rw h (refl, poured-none (o .rows) t)
-
-    pub then-hard : (k p : ℕ) (u : List ℕ) → a ≡ Hard k p → Did base (a then f) o t u (Ran.Hard k p)
-    unfolding _then_
-    then-hard k p u h = rw h refl
-
   -- ---- a token
 
   module _ (x y : Read) (v : x ≡ y) where

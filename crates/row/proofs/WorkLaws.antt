@@ -1,5 +1,6 @@
--- The front of a working space becomes zeros, byte by byte.
+-- The front of a working space becomes zeros, byte by byte; a text is copied, byte by byte.
 use Prim.Native.Nat.{ℕ, suc, _+_, _≤_, _<_}
+use native.Mathlib.Nat.{add-zero}
 use native.Mathlib.Omega.{arith}
 use mathlib.Core.Path.{_≡_, refl, sym, ap, _∙_}
 use mathlib.Core.List.{List, [], _∷_, append-assoc}
@@ -7,6 +8,7 @@ use lib.ListN.{
   length,
   take,
   drop,
+  getD,
   set,
   replicate,
   replicate-append-replicate,
@@ -14,8 +16,10 @@ use lib.ListN.{
   length-append,
   length-drop,
   length-set,
+  drop-of-length-le,
 }
-use lib.Seq.{set-split, take-at, drop-at, drop-drop}
+use lib.Seq.{sets, set-split, take-at, drop-at, drop-drop}
+use Rattle.text.proofs.Steps.{drop-step}
 use Rattle.row.specs.Work.{cleared}
 
 module _ (w₀ w : List ℕ) (i n : ℕ) (v : w ≡ cleared i w₀) where
@@ -42,3 +46,17 @@ pub clear-length : (w₀ w : List ℕ) (a : ℕ) → length w ≡ length w₀ �
 clear-length w₀ w a e = rw length-set e
 
 pub ruleset clear-laws = (clear-start, clear-byte, clear-end, clear-length)
+
+-- ---- copying: what is left at i is still to be stored, from i on
+
+module _ (u t c : List ℕ) (at i : ℕ) (v : u ≡ sets t (at + i) (drop i c)) where
+  pub copy-end : length c ≤ i → t ≡ u
+  copy-end h = sym (v ∙ rw (drop-of-length-le c h))
+
+  pub copy-on : i < length c → u ≡ sets (set t (at + i) (getD c i 0)) (at + (i + 1)) (drop (i + 1) c)
+  copy-on h = let k : suc (at + i) ≡ at + (i + 1) = omega arith in v ∙ rw (drop-step c i h) (ap (λ (j : ℕ). sets (set t (at + i) (getD c i 0)) j (drop (i + 1) c)) k)
+
+pub copy-start : (t c : List ℕ) (at : ℕ) → sets t at c ≡ sets t (at + 0) (drop 0 c)
+copy-start t c at = rw (add-zero at)
+
+pub ruleset copy-laws = (copy-end, copy-on, copy-start)

@@ -26,9 +26,12 @@ use Rattle.row.proofs.PourLaws.{pourAt-full}
 four : {a b c d w x y z : ℕ} → a ≡ w → b ≡ x → c ≡ y → d ≡ z → (a ∷ b ∷ c ∷ d ∷ []) ≡ (w ∷ x ∷ y ∷ z ∷ [])
 four e f g h = rw (e, f, g, h)
 
+pub mod-four : (x y : ℕ) → x % fieldLimit ≡ y % fieldLimit → le 4 x ≡ le 4 y
+mod-four x y h = four (omega arith) (omega arith) (omega arith) (omega arith)
+
 -- the low four bytes of a sum are those of the sum with the low four bytes
 low : (b x : ℕ) → le 4 (b + x % fieldLimit) ≡ le 4 (b + x)
-low b x = four (omega arith) (omega arith) (omega arith) (omega arith)
+low b x = mod-four (b + x % fieldLimit) (b + x) (omega arith)
 
 -- a row as the writer makes it: its line is not known yet
 abbrev unlined : ℕ → ℕ → ℕ → ℕ → ℕ → ℕ → Row

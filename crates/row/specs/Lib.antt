@@ -4,4 +4,5 @@ pub mod Row
 pub mod Work
 pub mod Details
 pub mod Strings
+pub mod Opened
 pub mod steps

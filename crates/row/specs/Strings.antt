@@ -1,26 +1,11 @@
--- Recovering reading's boundaries, and demand 3's strings as far as rows name them.
+-- Demand 3's strings as far as rows name them.
 use Prim.Native.Nat.{ℕ}
-use Prim.Native.Char.{code}
-use mathlib.Core.Bool.{Bool, false, cond, _||_, _&&_}
-use mathlib.Core.List.{List, [], _∷_}
+use mathlib.Core.Bool.{Bool, cond, _||_, _&&_}
+use mathlib.Core.List.{List}
 use lib.Dec.{eqb}
-use lib.ListN.{getD}
-use Rattle.text.specs.Bytes.{isDigit, isSmall}
+use Rattle.text.specs.Bytes.{between}
+use Rattle.text.specs.Boundaries.{holds}
 use Rattle.amount.specs.Kinds.{payeeKind, narrationKind, bookingKind, stringKind, stringMetaKind}
-use Rattle.amount.specs.Literal.{between}
-
--- A boundary is a line start whose byte is a digit or small letter.
-abbrev pub isStart : ℕ → Bool
-isStart b = isDigit b || isSmall b
-
--- whether one stands between a byte and the next
-abbrev pub cuts : ℕ → ℕ → Bool
-cuts b next = cond (eqb b (code "\n")) (isStart next) false
-
--- whether a text holds one
-unfoldable pub holds : List ℕ → Bool
-holds [] = false
-holds (b ∷ s) = cuts b (getD s 0 0) || holds s
 
 -- Demand 3's strings are the spans of kinds 21, 22, 32, 34, the values of 35.
 unfoldable pub counted : ℕ → Bool

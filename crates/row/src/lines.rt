@@ -3,6 +3,7 @@ use crate::field;
 use crate::table::LINE;
 use crate::table::START;
 use crate::table::WIDTH;
+use text::bytes;
 use text::run;
 use text::run::Class;
 ghost use mathlib.Core.Path.{_≡_};
@@ -130,13 +131,6 @@ fn few_feeds(s: &[u8]) -> u8
     n
 }
 
-// A byte's count as a number.
-fn wide(n: u8) -> usize
-    ensures { λ r. ⌜ r ≡ n ⌝ }
-{
-    n as usize
-}
-
 // Where a part ends whose line feeds are counted in a byte.
 fn part_end(i: usize, size: usize) -> usize
     requires { ⌜ i < size ⌝ }
@@ -156,7 +150,7 @@ pub fn feeds_of(s: &[u8]) -> usize
     let mut n = 0;
     while i < s.len() {
         let end = part_end(i, s.len());
-        n += wide(few_feeds(&s[i..end]));
+        n += bytes::wide(few_feeds(&s[i..end]));
         i = end;
     }
     n

@@ -47,7 +47,8 @@ fn wide(n: u64) -> usize
     n as usize
 }
 
-fn value_bits(v: Value) -> usize
+// A value's eight bytes.
+pub fn value_bits(v: Value) -> usize
     ensures { λ r. ⌜ r ≡ twosOf (millionths v) ⌝ }
 {
     match v {

@@ -111,11 +111,11 @@ pub ruleset parts-laws = (parts-stop, parts-passed)
 -- ---- the first part of an account that ends at j: its end is the first colon, or j
 
 -- a colon is no byte of a part
-colon-out : inAccount 58 ≡ false
+pub colon-out : inAccount 58 ≡ false
 unfolding inAccount isCapital isSmall isDigit
 colon-out = refl
 
-none-past : inAccount 0 ≡ false
+pub none-past : inAccount 0 ≡ false
 unfolding inAccount isCapital isSmall isDigit
 none-past = refl
 

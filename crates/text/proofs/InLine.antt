@@ -8,8 +8,9 @@ use borrow.Author.Tests.{ne-eqb, lt-leb, le-ltb}
 use lib.Dec.{eqb}
 use lib.ListN.{length, length-append}
 use lib.Seq.{getD-append-seam}
-use Rattle.text.specs.Bytes.{isBlank, isDigit, isSmall, isCapital, inComment, startsPart, inAccount, inCurrency, inTag, inLink}
+use Rattle.text.specs.Bytes.{isBlank, isDigit, isSmall, isCapital, inComment, startsPart, inAccount, inCurrency, inTag, inLink, inLine}
 use Rattle.text.specs.Run.{blanks}
+use Rattle.text.specs.Boundaries.{isStart}
 use Rattle.text.specs.Lines.{gapAt, commentEnd, eolAt, lineEndAt}
 use Rattle.text.specs.declared.Read.the-variants.{Miss}
 use Rattle.text.proofs.TestLaws.{differ}
@@ -23,6 +24,7 @@ hasLF (x ∷ r) = eqb x 10 || hasLF r
 -- none of the classes of the tokens' bytes holds it
 pub record NoLF : Type 0 where
   pub blank : isBlank 10 ≡ false
+  pub line : inLine 10 ≡ false
   pub comment : inComment 10 ≡ false
   pub part : startsPart 10 ≡ false
   pub account : inAccount 10 ≡ false
@@ -32,8 +34,8 @@ pub record NoLF : Type 0 where
   pub link : inLink 10 ≡ false
 
 pub no-lf : NoLF
-unfolding isBlank inComment startsPart inAccount isCapital isSmall isDigit inCurrency inTag inLink
-no-lf = record { blank = refl; comment = refl; part = refl; account = refl; capital = refl; currency = refl; tag = refl; link = refl }
+unfolding isBlank inLine inComment startsPart inAccount isCapital isSmall isDigit inCurrency inTag inLink
+no-lf = record { blank = refl; line = refl; comment = refl; part = refl; account = refl; capital = refl; currency = refl; tag = refl; link = refl }
 
 -- ---- the boundary
 
@@ -44,13 +46,10 @@ pub record Boundary (b : ℕ) : Type 0 where
   pub lf : eqb b 10 ≡ false
   pub cr : eqb b 13 ≡ false
 
-abbrev pub starts : ℕ → Bool
-starts b = isDigit b || isSmall b
+pub start-not : (b c : ℕ) → isStart b ≡ true → isStart c ≡ false → eqb b c ≡ false
+start-not b c h k = ne-eqb b c (differ (λ x. isStart x) b c h k)
 
-pub start-not : (b c : ℕ) → starts b ≡ true → starts c ≡ false → eqb b c ≡ false
-start-not b c h k = ne-eqb b c (differ (λ x. starts x) b c h k)
-
-pub start-bounds : (b : ℕ) → starts b ≡ true → Boundary b
+pub start-bounds : (b : ℕ) → isStart b ≡ true → Boundary b
 unfolding isDigit isSmall isBlank
 start-bounds b h = record {
   blank = rw (start-not b 32 h refl, start-not b 9 h refl);

@@ -115,3 +115,10 @@ module _ {A : Type 0} where
       on (Hard k z) p q = absurd (let z : _≡_ {A = ℕ} 0 1 = cc in omega arith)
   and-parts Miss g j x e = absurd (let z : _≡_ {A = ℕ} 0 1 = cc in omega arith)
   and-parts (Hard k p) g j x e = absurd (let z : _≡_ {A = ℕ} 0 1 = cc in omega arith)
+
+-- a choice that never is
+pub else-none : {A : Type 0} (a : Ans A) → (a else Miss) ≡ a
+unfolding _else_
+else-none (To j x) = refl
+else-none Miss = refl
+else-none (Hard k p) = refl

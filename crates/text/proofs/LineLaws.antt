@@ -1,11 +1,12 @@
--- The answers at gaps and line ends, each from what the code knows where it gives it.
+-- The answers at gaps, commas and line ends, each from what the code knows where it gives it.
 use Prim.Native.Nat.{ℕ, _+_, _≤_, _<_}
+use native.Mathlib.Omega.{arith}
 use mathlib.Core.Path.{_≡_}
 use mathlib.Core.List.{List}
 use borrow.Author.Tests.{ne-eqb, lt-ltb, le-ltb, le-leb, lt-leb}
 use lib.ListN.{length, getD}
 use Rattle.text.specs.Run.{blanks}
-use Rattle.text.specs.Lines.{gapAt, commentEnd, eolAt, lineEndAt}
+use Rattle.text.specs.Lines.{gapAt, commaAt, commentEnd, eolAt, lineEndAt}
 use Rattle.text.specs.declared.Read.{Read}
 use Rattle.text.specs.declared.Read.the-variants.{To, Miss}
 use Rattle.text.proofs.Steps.{getD-past}
@@ -18,6 +19,19 @@ module _ (s : List ℕ) (at : ℕ) where
   pub gap-miss : (e : ℕ) → e ≡ blanks s at → e ≤ at → Miss ≡ gapAt s at
   unfolding gapAt
   gap-miss e v h = cc (le-ltb at e h)
+
+  -- a comma; b is past the blanks
+  module _ (b : ℕ) (p : b ≡ blanks s at) where
+    pub comma-read : (e : ℕ) → getD s b 0 ≡ 44 → e ≡ blanks s (b + 1) → To e ≡ commaAt s at
+    unfolding commaAt
+    comma-read e q w = rw (← p, q, w)
+
+    pub comma-no : (getD s b 0 ≡ 44 → ⊥) → Miss ≡ commaAt s at
+    unfolding commaAt
+    comma-no q = rw (← p, ne-eqb (getD s b 0) 44 q)
+
+    pub comma-past : length s ≤ b → Miss ≡ commaAt s at
+    comma-past h = comma-no (λ q. omega (arith, getD-past s b h))
 
   -- the end of a line; b is the byte after a CR
   pub eol-lf : getD s at 0 ≡ 10 → To (at + 1) ≡ eolAt s at
@@ -46,6 +60,8 @@ module _ (s : List ℕ) (at : ℕ) where
   line-read b e r p q u = cc
 
 pub ruleset gap-laws = (gap-read, gap-miss)
+
+pub ruleset comma-laws = (comma-read, comma-no, comma-past)
 
 pub ruleset eol-laws = (eol-lf, eol-crlf, eol-cr, eol-miss, eol-end)
 

@@ -52,7 +52,7 @@ pub ruleset chunk-laws = (chunk-start, chunk-on, chunk-end)
 
 -- ---- the text as a whole
 
-clean-le : (s : List ℕ) → clean s ≤ length s
+pub clean-le : (s : List ℕ) → clean s ≤ length s
 unfolding clean
 clean-le [] = zero-le
 clean-le (b ∷ s) = go (permitted b (getD s 0 0)) (clean-le s)

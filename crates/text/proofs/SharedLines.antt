@@ -10,14 +10,14 @@ use lib.Dec.{eqb, leb}
 use lib.ListN.{length, drop, getD}
 use Rattle.text.specs.Bytes.{isBlank, isCapital, isSmall, isDigit, inComment, inAccount, inCurrency, inTag, inLink, startsPart}
 use Rattle.text.specs.Run.{runTo, blanks}
-use Rattle.text.specs.Lines.{gapAt, commentEnd, eolAt, lineEndAt, emptyAt}
+use Rattle.text.specs.Lines.{gapAt, commaAt, commentEnd, eolAt, lineEndAt, emptyAt}
 use Rattle.text.specs.Dates.{likeShape, dateShape, two, dateIn, dateAt}
 use Rattle.text.specs.Accounts.{partFollows, partsFrom, accountAt}
 use Rattle.text.specs.Currencies.{currencyAt}
 use Rattle.text.specs.Words.{startsWith, wordAt}
 use Rattle.text.specs.Tags.{markedAt}
 use Rattle.text.specs.Answer.{To, Miss}
-use Rattle.text.specs.Leaves.{token, named, dated, gap, lineEnd, emptyLine, account, currency, tag, link, date, word, byte}
+use Rattle.text.specs.Leaves.{token, named, dated, gap, comma, lineEnd, emptyLine, account, currency, tag, link, date, word, byte}
 use Rattle.text.specs.declared.Read.{Read}
 use Rattle.text.specs.declared.account.AccountRead.{AccountRead}
 use Rattle.text.specs.declared.date.Dated.{Dated}
@@ -204,6 +204,10 @@ module _ {Q : Type 0} {s z : List ℕ} {K P : ℕ → ℕ → Type 0} (L : Share
   unfolding token
   started-alike h p f g {i} {j} S =
       rw (byte-same S) (cond-alike token token (h (getD s i 0)) _ _ Read.Miss Read.Miss (λ e. both-to _ _ [] [] (run-alike p g (step h f S e)) (λ _. refl)) (λ _. both-miss))
+
+  pub comma-alike : {A : Type 0} {i j : ℕ} → K i j → Alike {A = List A} Q K (comma s i) (comma z j)
+  unfolding comma commaAt
+  comma-alike S = started-alike (λ x. eqb x 44) isBlank refl (no-lf .blank) (blanks-alike S)
 
   pub tag-alike : {A : Type 0} {i j : ℕ} → K i j → Alike {A = List A} Q K (tag s i) (tag z j)
   unfolding tag markedAt

@@ -1,5 +1,5 @@
 -- Stepping through a text: how s[i] steps a definition that goes down the list `drop i s`, and what a longest run is.
-use Prim.Native.Nat.{ℕ, zero, suc, _+_, _≤_, _<_}
+use Prim.Native.Nat.{ℕ, zero, suc, _+_, _-_, _≤_, _<_}
 use native.Mathlib.Decide.{decLt}
 use native.Mathlib.Nat.{add-zero}
 use native.Mathlib.Numerals.{add-one}
@@ -8,8 +8,8 @@ use mathlib.Core.Path.{_≡_, refl, _∙_}
 use mathlib.Core.Bool.{Bool, true, false}
 use mathlib.Core.List.{List, _∷_}
 use borrow.Author.Tests.{eq-eqb, ne-eqb, lt-ltb, le-ltb, le-leb, lt-leb}
-use lib.ListN.{length, drop, getD, drop-of-length-le, List·getD-eq-default}
-use lib.Seq.{drop-cons, getD-drop}
+use lib.ListN.{length, take, drop, getD, length-drop, drop-of-length-le, List·getD-eq-default}
+use lib.Seq.{drop-cons, getD-drop, take-all}
 use Rattle.text.specs.Run.{runFrom, runTo}
 use Rattle.text.proofs.TestLaws.{differ}
 
@@ -87,3 +87,7 @@ module _ (p : ℕ → Bool) (s : List ℕ) where
 
   pub run-out : (i e : ℕ) → e ≡ runTo p s i → e < length s → p (getD s e 0) ≡ false
   run-out = run-ind (λ (i e : ℕ). e < length s → p (getD s e 0) ≡ false) (λ i h l. absurd (omega arith)) (λ i h o l. o) (λ i e h o u. u)
+
+-- the rest of a text, as the code lends it on
+pub rest-of : (s : List ℕ) (at : ℕ) → take (length s - at) (drop at s) ≡ drop at s
+rest-of s at = take-all (length s - at) (drop at s) (rw length-drop (omega arith))

@@ -13,12 +13,13 @@ use lib.Seq.{getD-append-seam}
 use Rattle.text.specs.Lines.{emptyAt}
 use Rattle.text.specs.Leaves.{token, gap, emptyLine}
 use Rattle.text.proofs.Steps.{getD-past}
-use Rattle.text.proofs.InLine.{starts, start-bounds, line-end-misses, gap-misses, gap-ends}
+use Rattle.text.specs.Boundaries.{isStart}
+use Rattle.text.proofs.InLine.{start-bounds, line-end-misses, gap-misses, gap-ends}
 use Rattle.text.proofs.Alike.{Same, Upto, upto, miss-same}
 use Rattle.text.proofs.SharedLines.{Shared, gap-alike, empty-alike}
 
 -- xs is the text, ys the rest, s both
-module _ (front t : List ℕ) (b : ℕ) (B : starts b ≡ true) where
+module _ (front t : List ℕ) (b : ℕ) (B : isStart b ≡ true) where
   abbrev pub xs : List ℕ
   xs = front ++ (10 ∷ [])
 

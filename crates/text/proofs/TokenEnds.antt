@@ -9,7 +9,7 @@ use lib.Dec.{eqb, leb, ltb}
 use lib.ListN.{length, drop, getD, length-drop}
 use Rattle.text.specs.Bytes.{isBlank, isCapital, isDigit, inComment, inAccount, inCurrency, inTag, inLink, startsPart}
 use Rattle.text.specs.Run.{runFrom, runTo, blanks}
-use Rattle.text.specs.Lines.{gapAt, commentEnd, eolAt, lineEndAt, emptyAt}
+use Rattle.text.specs.Lines.{gapAt, commaAt, commentEnd, eolAt, lineEndAt, emptyAt}
 use Rattle.text.specs.Dates.{likeShape, dateShape, two, dateIn, dateAt}
 use Rattle.text.specs.Strings.{stringAt}
 use Rattle.text.specs.Accounts.{partFollows, partsFrom, accountAt}
@@ -17,7 +17,7 @@ use Rattle.text.specs.Currencies.{currencyAt}
 use Rattle.text.specs.Words.{startsWith, wordAt}
 use Rattle.text.specs.Tags.{markedAt}
 use Rattle.text.specs.Answer.{To, Miss}
-use Rattle.text.specs.Leaves.{token, named, dated, gap, lineEnd, emptyLine, string, account, currency, tag, link, date, word, byte}
+use Rattle.text.specs.Leaves.{token, named, dated, gap, comma, lineEnd, emptyLine, string, account, currency, tag, link, date, word, byte}
 use Rattle.text.specs.declared.Read.{Read}
 use Rattle.text.specs.declared.account.AccountRead.{AccountRead}
 use Rattle.text.specs.declared.date.Dated.{Dated}
@@ -82,6 +82,15 @@ module _ {A : Type 0} (s : List ℕ) (at : ℕ) where
   pub gap-reach : at ≤ length s → Reach (length s) (at + 1) (gap {A = A} s at)
   unfolding gap gapAt
   gap-reach h = tested-reach (length s) (at + 1) (ltb at (blanks s at)) (blanks s at) (λ e. omega (arith, ltb-true at (blanks s at) e, run-reach isBlank s at h))
+
+  pub comma-reach : at ≤ length s → Reach (length s) (at + 1) (comma {A = A} s at)
+  unfolding comma commaAt
+  comma-reach h =
+      let b = blanks s at in
+      tested-reach (length s) (at + 1) (eqb (getD s b 0) 44) (blanks s (b + 1))
+      (λ e.
+      let l = such-within (λ x. eqb x 44) s b (getD s b 0) refl refl e in
+      omega (arith, run-reach isBlank s at h, run-reach isBlank s (b + 1) (omega arith)))
 
   pub line-reach : at ≤ length s → Reach (length s) at (lineEnd {A = A} s at)
   unfolding lineEnd

@@ -1,10 +1,11 @@
 -- Byte classes of document 01. A text is the list of its bytes; past its end a byte reads as 0, which no rule takes.
-use Prim.Native.Nat.{ℕ}
+use Prim.Native.Nat.{ℕ, _-_}
 use Prim.Native.Char.{code}
 use Prim.Native.String.{String}
 use mathlib.Core.Bool.{Bool, _||_, _&&_, not}
 use mathlib.Core.List.{List, [], _∷_}
 use lib.Dec.{leb, eqb}
+use lib.ListN.{take, drop}
 
 -- Blank: space or tab.
 unfoldable pub isBlank : ℕ → Bool
@@ -63,3 +64,7 @@ inLink b = inTag b || eqb b (code ".")
 unfoldable pub bytes : String → List ℕ
 bytes String.[] = []
 bytes (String._∷_ c s) = code c ∷ bytes s
+
+-- the bytes of a text from place a up to e
+abbrev pub between : List ℕ → ℕ → ℕ → List ℕ
+between s a e = take (e - a) (drop a s)

@@ -3,22 +3,15 @@ use Prim.Native.Nat.{ℕ, _+_}
 use Prim.Native.String.{String}
 use mathlib.Core.Path.{_≡_, refl}
 use mathlib.Core.List.{List, [], _∷_, map}
-use Rattle.text.specs.Bytes
-use Rattle.text.specs.Run.{runFrom, runTo}
-use Rattle.text.specs.Permitted.{permitted, clean}
-use Rattle.text.specs.Lines.{gapAt, commentEnd, eolAt, lineEndAt, emptyAt}
-use Rattle.text.specs.Dates.{asShape, likeShape, two, dateIn, dateAt}
-use Rattle.text.specs.Strings.{strFrom, escFrom, stringAt}
-use Rattle.text.specs.Accounts.{partFollows, partsFrom, accountAt}
-use Rattle.text.specs.Currencies.{currencyAt}
-use Rattle.text.specs.Words.{startsWith, wordAt}
-use Rattle.text.specs.Tags.{markedAt}
+use Rattle.text.specs.Bytes.{bytes}
+use Rattle.text.specs.Permitted.{clean}
 use Rattle.text.specs.Answer.{Ans, To, Miss, Hard, _then_}
-use Rattle.text.specs.Leaves.{token, named, dated, gap, lineEnd, emptyLine, string, account, currency, tag, link, date, word}
+use Rattle.text.specs.Leaves.{gap, lineEnd, emptyLine, string, account, currency, tag, link, date, word}
+use Rattle.text.specs.Opened.{opened}
 
 -- a token, at the start of a text
 abbrev start : (List ℕ → ℕ → Ans (List ℕ)) → String → Ans (List ℕ)
-start reader text = reader (Bytes.bytes text) 0
+start reader text = reader (bytes text) 0
 
 abbrev to : ℕ → Ans (List ℕ)
 to j = To j []
@@ -67,8 +60,8 @@ examples =
     ∷ (start currency "A-", Miss)
     ∷ (start currency "A'.1_B ", to 6)
     ∷ (start currency "1A", Miss)
-    ∷ (start (word (Bytes.bytes "open")) "opens", to 4)
-    ∷ (start (word (Bytes.bytes "option")) "opt", Miss)
+    ∷ (start (word (bytes "open")) "opens", to 4)
+    ∷ (start (word (bytes "option")) "opt", Miss)
     ∷ (start tag "# x", to 1)
     ∷ (start tag "#a_1.b", to 4)
     ∷ (start link "^a_1.b", to 6)
@@ -79,5 +72,5 @@ examples =
     ∷ []
 
 pub examples-hold : map (λ e. e .0) examples ≡ map (λ e. e .1) examples
-unfolding Bytes.bytes Bytes.isBlank Bytes.isDigit Bytes.isSmall Bytes.isCapital Bytes.inComment Bytes.isEscaped Bytes.startsPart Bytes.inAccount Bytes.inCurrency Bytes.inTag Bytes.inLink runFrom runTo permitted clean gapAt commentEnd eolAt lineEndAt emptyAt asShape likeShape two dateIn dateAt strFrom escFrom stringAt partFollows partsFrom accountAt currencyAt startsWith wordAt markedAt _then_ token named dated gap lineEnd emptyLine string account currency tag link date word
+unfolding opened
 examples-hold = refl

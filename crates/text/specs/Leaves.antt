@@ -5,7 +5,7 @@ use mathlib.Core.List.{List, []}
 use lib.Dec.{eqb}
 use lib.ListN.{getD}
 use Rattle.text.specs.Answer.{Ans, To, Miss, Hard}
-use Rattle.text.specs.Lines.{gapAt, lineEndAt, emptyAt}
+use Rattle.text.specs.Lines.{gapAt, commaAt, lineEndAt, emptyAt}
 use Rattle.text.specs.Dates.{dateAt}
 use Rattle.text.specs.Strings.{stringAt}
 use Rattle.text.specs.Accounts.{accountAt}
@@ -34,6 +34,9 @@ dated Dated.Miss = Miss
 module _ {A : Type 0} (s : List ℕ) (at : ℕ) where
   unfoldable pub gap : Ans (List A)
   gap = token (gapAt s at)
+
+  unfoldable pub comma : Ans (List A)
+  comma = token (commaAt s at)
 
   unfoldable pub lineEnd : Ans (List A)
   lineEnd = token (lineEndAt s at)

@@ -1,6 +1,7 @@
 pub mod Every
 pub mod Bytes
 pub mod Run
+pub mod Boundaries
 pub mod Permitted
 pub mod Lines
 pub mod Dates
@@ -11,5 +12,6 @@ pub mod Words
 pub mod Tags
 pub mod Answer
 pub mod Leaves
+pub mod Opened
 pub mod Examples
 pub mod steps

@@ -1,4 +1,4 @@
--- Gaps, and rule 2.
+-- Gaps, commas, and rule 2.
 use Prim.Native.Nat.{ℕ, _+_}
 use Prim.Native.Char.{code}
 use mathlib.Core.Bool.{cond, _&&_}
@@ -13,6 +13,10 @@ use Rattle.text.specs.declared.Read.the-variants.{To, Miss}
 -- Gap: one blank or more.
 unfoldable pub gapAt : List ℕ → ℕ → Read
 gapAt s at = cond (ltb at (blanks s at)) (To (blanks s at)) Miss
+
+-- Rules 10 and 13. Blanks may stand around a comma.
+unfoldable pub commaAt : List ℕ → ℕ → Read
+commaAt s at = let b = blanks s at in cond (eqb (getD s b 0) (code ",")) (To (blanks s (b + 1))) Miss
 
 -- Rule 2. Line end: blanks, optional `;` comment, then LF, CRLF or end of ledger.
 unfoldable pub commentEnd : List ℕ → ℕ → ℕ

@@ -1,5 +1,6 @@
 // Byte classes. The bytes that are met most often are tested first.
 ghost use mathlib.Core.Path.{_≡_};
+ghost use Prim.Native.Nat.{_≤_};
 ghost use lib.ListN.{getD};
 ghost use Rattle.text.specs.Bytes.{isBlank, isSpace, isDigit, isSmall, isCapital, inLine, inComment, isOrdinary, isEscaped, startsPart, inCurrency};
 
@@ -15,6 +16,14 @@ pub fn wide(b: u8) -> usize
     ensures { λ r. ⌜ r ≡ b ⌝ }
 {
     b as usize
+}
+
+// A number as a byte.
+pub fn narrow(n: usize) -> u8
+    requires { ⌜ n ≤ 255 ⌝ }
+    ensures { λ r. ⌜ r ≡ n ⌝ }
+{
+    n as u8
 }
 
 pub fn is_blank(b: u8) -> bool

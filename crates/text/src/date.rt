@@ -13,6 +13,13 @@ pub enum Dated {
     Miss,
 }
 
+// A date's number, as wide as a place.
+pub fn wide_date(n: u32) -> usize
+    ensures { λ r. ⌜ r ≡ n ⌝ }
+{
+    n as usize
+}
+
 fn wide(b: u8) -> u32
     ensures { λ r. ⌜ r ≡ b ⌝ }
 {

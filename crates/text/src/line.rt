@@ -1,10 +1,10 @@
-// Gaps and line ends (rule 2).
+// Gaps, commas and line ends (rule 2).
 use crate::Read;
 use crate::bytes;
 use crate::run;
 use crate::run::Class;
 ghost use mathlib.Core.Path.{_≡_};
-ghost use Rattle.text.specs.Lines.{gapAt, commentEnd, eolAt, lineEndAt, emptyAt};
+ghost use Rattle.text.specs.Lines.{gapAt, commaAt, commentEnd, eolAt, lineEndAt, emptyAt};
 
 // One blank or more.
 pub fn gap(s: &[u8], at: usize) -> Read
@@ -12,6 +12,19 @@ pub fn gap(s: &[u8], at: usize) -> Read
 {
     let e = run::run(s, at, Class::Blank);
     if at < e { Read::To(e) } else { Read::Miss }
+}
+
+// A comma, with blanks around.
+pub fn comma_at(s: &[u8], at: usize) -> Read
+    ensures { λ r. ⌜ r ≡ commaAt (now (s .entry)) at ⌝ }
+{
+    let b = run::run(s, at, Class::Blank);
+    if b < s.len() {
+        if s[b] == b',' {
+            return Read::To(run::run(s, b + 1, Class::Blank));
+        }
+    }
+    Read::Miss
 }
 
 // The end of a comment that starts at a place, or the place where none does.

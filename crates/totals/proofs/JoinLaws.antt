@@ -20,7 +20,7 @@ use Rattle.order.specs.Order.{said, saidIn}
 use Rattle.order.specs.Sorted.{recordsOf, joined, sortedBytes}
 use Rattle.order.specs.Groups.{Item, listed, items, isKnown, counted}
 use Rattle.order.specs.declared.runs.Counted.{Counted}
-use Rattle.order.proofs.RecordLaws.{Wide, length-joined, records-joined}
+use Rattle.order.proofs.RecordLaws.{Wide, records-joined}
 use Rattle.order.proofs.HalfLaws.{records-sorted}
 use Rattle.order.proofs.RunLaws.{placeIn}
 use Rattle.order.proofs.SaidLaws.{onFirst, items-map, counted-map}

@@ -11,7 +11,6 @@ use Rattle.row.specs.Details.{millionths}
 use Rattle.row.specs.Row.{fieldBytes, fieldsIn}
 use Rattle.row.proofs.PouredLaws.{poured-none, poured-append, length-pouredAt}
 use Rattle.row.proofs.PourLaws.{length-fieldBytes}
-use Rattle.row.proofs.WriteLaws.{bits-known, bits-refused}
 use Rattle.order.specs.Records.{recordWidth, recordRoom, putRecords, putRecordsAt}
 use Rattle.order.specs.Order.{saidIn, by}
 use Rattle.order.specs.Sorted.{Ordered, recordAt, recordsFrom, recordsOf}
@@ -25,8 +24,6 @@ use Rattle.order.proofs.SumLaws.{valueIn}
 use Rattle.order.proofs.RunLaws.{runs-follow, item-there, ordered-there, fresh-there}
 use Rattle.totals.specs.Totals.{itemRow}
 use Rattle.totals.specs.steps.Listing.{headRow, itemRowIn}
-
-pub ruleset bits-laws = (bits-known, bits-refused)
 
 -- the fields of a first record, with a number and a sum
 pub head-told : (b : List ℕ) (n : ℕ) (v : Value) (r : Row) (x : ℕ) → r ≡ fieldsIn b → x ≡ twosOf (millionths v)

@@ -5,33 +5,16 @@ use order::record;
 use order::record::RECORD;
 use order::runs;
 use row::table::Row;
+use row::writer;
 ghost use mathlib.Core.Path.{_≡_};
 ghost use mathlib.Core.List.{map};
 ghost use Prim.Native.Nat.{_/_, _<_};
 ghost use lib.ListN.{length};
-ghost use Rattle.decimal.specs.Exact.{twosOf};
-ghost use Rattle.row.specs.Details.{millionths};
 ghost use Rattle.order.specs.Records.{recordRoom, putRecords};
 ghost use Rattle.order.specs.Sorted.{Ordered, recordAt, recordsOf};
 ghost use Rattle.order.specs.Order.{saidIn, by};
 ghost use Rattle.order.specs.Groups.{listed};
 ghost use Rattle.totals.specs.steps.Listing.{headRow, itemRowIn};
-
-fn wide(n: u64) -> usize
-    ensures { λ r. ⌜ r ≡ n ⌝ }
-{
-    n as usize
-}
-
-// A sum's eight bytes.
-fn sum_bits(v: Value) -> usize
-    ensures { λ r. ⌜ r ≡ twosOf (millionths v) ⌝ }
-{
-    match v {
-        Value::Known(d) => wide(decimal::row_bits(d)),
-        Value::Refused(_) => 0,
-    }
-}
 
 // The row of the item whose first record is record i.
 fn head_row(t: &[u8], i: usize, count: usize, sum: Value) -> Row
@@ -46,7 +29,7 @@ fn head_row(t: &[u8], i: usize, count: usize, sum: Value) -> Row
         line: count,
         p: first.p,
         q: first.q,
-        bits: sum_bits(sum),
+        bits: writer::value_bits(sum),
     }
 }
 

@@ -22,14 +22,14 @@ use Rattle.amount.specs.Details.{Rows, span}
 use Rattle.amount.specs.declared.detail.Detail.{Detail}
 use Rattle.row.specs.Row.{pourAt}
 use Rattle.row.specs.Details.{laid}
-use Rattle.row.specs.steps.Writing.{noted, Did, Room}
+use Rattle.row.specs.steps.Writing.{noted, Did}
 use Rattle.row.specs.declared.writer.Out.{Out}
 use Rattle.row.specs.declared.writer.Ran.{Ran}
-use Rattle.row.proofs.OutLaws.{rows-noted, wrote-none, wrote-one, wrote-then, poured-none}
+use Rattle.row.proofs.OutLaws.{noted-room, wrote-none, wrote-one, wrote-then, poured-none}
 use Rattle.row.proofs.SureLaws.{Sure, sure-to, sure-else}
 use Rattle.row.proofs.DidLaws.{did-read, did-none, maybe-sure}
 use Rattle.posting.specs.Postings.{isFlag, flag}
-use Rattle.posting.proofs.OneRows.{token-to}
+use Rattle.amount.proofs.OneRows.{token-to}
 use Rattle.transaction.specs.Transaction.{opening, texts}
 use Rattle.transaction.specs.steps.Heads.{bareRan, txnRan, withString, afterGap, gapString, secondText, textsOf}
 use Rattle.transaction.specs.declared.transaction.GapString.{GapString}
@@ -205,11 +205,7 @@ module _ (base : ℕ) (o : Out) (t : List ℕ) (s : List ℕ) (a e : ℕ) (x : G
       (ap (λ (z : Rows). z else To e (D ∷ [])) (spaced-miss s e x p (λ b f. To f (span 21 (a + 1) (e - 1) ∷ span 22 (b + 1) (f - 1) ∷ [])) q))
       (wrote-one base o t D m u hm hu)
 
--- room for the second row
-pub second-room : (o m : Out) (d : Detail) → m ≡ noted o d → Room 2 o → Room 1 m
-second-room o m d p h = omega (arith, ap (λ (x : Out). x .rows) p, rows-noted o d)
-
-pub ruleset second-laws = (spaced-fits, spaced-takes, second-two, second-one, second-room)
+pub ruleset second-laws = (spaced-fits, spaced-takes, second-two, second-one, noted-room)
 
 -- ---- the strings: x is the first's answer
 

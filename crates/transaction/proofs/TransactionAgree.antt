@@ -13,10 +13,11 @@ use Rattle.text.specs.Tags.{markedAt}
 use Rattle.text.specs.Answer.{To, Miss, Hard, must, _else_, more, _and_}
 use Rattle.text.specs.Leaves.{token, gap, string, tag, link, lineEnd}
 use Rattle.text.proofs.Steps.{run-stops, run-ends}
-use Rattle.text.proofs.InLine.{hasLF, starts, start-not, start-bounds}
+use Rattle.text.proofs.InLine.{hasLF, start-not, start-bounds}
 use Rattle.text.proofs.Joins.{Reach, reach-from, must-reach, and-reach}
 use Rattle.text.proofs.Alike.{Same, Upto, upto, both-to, to-same, miss-same, same-below, else-alike, and-alike, many-alike}
 use Rattle.text.proofs.SharedLines.{Shared, told, blanks-alike, gap-alike, tag-alike, link-alike, word-alike}
+use Rattle.text.specs.Boundaries.{isStart}
 use Rattle.text.proofs.StringSame.{string-ends}
 use Rattle.text.proofs.TokenEnds.{gap-reach, line-reach, string-reach}
 use Rattle.text.proofs.TextCut.{xs, ys, s, cut, seam, past-end, at-seam, gap-same}
@@ -42,12 +43,12 @@ counted-22 : counted 22 ≡ true
 unfolding counted
 counted-22 = refl
 
-txn-lf : hasLF (bytes "txn") ≡ false
+pub txn-lf : hasLF (bytes "txn") ≡ false
 unfolding hasLF bytes
 txn-lf = refl
 
 -- no mark stands where its byte does not
-start-not-mark : (b : ℕ) → starts b ≡ true → (eqb b 35 ≡ false) × (eqb b 94 ≡ false)
+start-not-mark : (b : ℕ) → isStart b ≡ true → (eqb b 35 ≡ false) × (eqb b 94 ≡ false)
 unfolding isDigit isSmall
 start-not-mark b h = (start-not b 35 h refl, start-not b 94 h refl)
 
@@ -104,7 +105,7 @@ rest-sure : (s : List ℕ) (at : ℕ) → Sure (rest s at)
 unfolding marks
 rest-sure s at = sure-and _ (sure-many _ _ at) (λ c. sure-and _ (sure-must c _) (λ d. sure-and _ (sure-metadata s d) (sure-body s)))
 
-module _ (front t : List ℕ) (b : ℕ) (B : starts b ≡ true) where
+module _ (front t : List ℕ) (b : ℕ) (B : isStart b ≡ true) where
   abbrev X : List ℕ
   X = xs front t b B
 

@@ -1,2 +1,3 @@
 pub mod Transaction
+pub mod Opened
 pub mod steps

@@ -39,10 +39,11 @@ use Rattle.entry.specs.declared.entry.Entry.{Entry}
 use Rattle.entry.specs.steps.Settled.{ownRow, kindOf, entryAnswer, formRows}
 use Rattle.entry.proofs.EntryForms.{entry-form, entry-sound}
 use Rattle.entry.proofs.EntryTold.{Transacted, form-transacted, form-placed, form-kind-low}
-use Rattle.ledger.specs.Plain.{moved, Reading, accepted, denied, after, readFrom}
+use Rattle.ledger.specs.Plain.{moved, accepted, readFrom}
 use Rattle.ledger.specs.steps.Scan.{withLine}
-use Rattle.ledger.proofs.PlainLaws.{read-nil}
-use Rattle.ledger.proofs.ScanLaws.{rest-of, rows-laid, read-on, read-stop}
+use Rattle.ledger.proofs.PlainLaws.{read-nil, after-accepted}
+use Rattle.text.proofs.Steps.{rest-of}
+use Rattle.ledger.proofs.ScanLaws.{rows-laid, read-on, read-stop}
 use Rattle.walk.specs.declared.step.Turn.{Turn}
 use Rattle.walk.specs.Postings.{postingsFrom}
 use Rattle.walk.specs.steps.Walks.{dateOf, headEnd, Rest, Turned, outer, inner}
@@ -80,10 +81,6 @@ date-none x d p q = rw (← p, q)
 pub ruleset date-laws = (date-on, date-none)
 
 -- ---- the entries from a place on
-
-after-accepted : (xs : List Row) (w : Reading) (rows : List Row) → after xs w ≡ accepted rows → (zs : List Row) × (w ≡ accepted zs) × (rows ≡ xs ++ zs)
-after-accepted xs (accepted zs) rows e = (zs, refl, cc)
-after-accepted xs (denied n p) rows e = absurd (let z : _≡_ {A = ℕ} 0 1 = cc in omega arith)
 
 same-rows : (xs ys : List Row) → accepted xs ≡ accepted ys → ys ≡ xs
 same-rows xs ys e = cc

@@ -25,7 +25,7 @@ use Rattle.posting.proofs.StepRows.{step-shape, body-miss, body-hard, body-on, 
 use Rattle.ledger.specs.Plain.{accepted, plain}
 use Rattle.ledger.specs.steps.Scan.{withLine, scanned}
 use Rattle.ledger.proofs.ReadLaws.{plain-reads}
-use Rattle.ledger.proofs.ScanLaws.{rest-of}
+use Rattle.text.proofs.Steps.{rest-of}
 use Rattle.walk.specs.declared.step.Cursor.{Cursor}
 use Rattle.walk.specs.declared.step.Turn.{Turn}
 use Rattle.walk.specs.Postings.{postings, postingsFrom}

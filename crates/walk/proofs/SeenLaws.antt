@@ -18,7 +18,7 @@ use Rattle.row.proofs.PourLaws.{pour-fits, pourAt-zero, length-rowBytes}
 use Rattle.row.proofs.ReadBack.{wrapped, row-in, four-back, eight-back, bits-low}
 use Rattle.row.specs.steps.Holding.{Held}
 use Rattle.row.specs.Field.{fieldLimit}
-use Rattle.ledger.proofs.ScanLaws.{rest-of}
+use Rattle.text.proofs.Steps.{rest-of}
 use Rattle.posting.proofs.StepRows.{Amounted, Post, Front}
 use Rattle.walk.specs.Postings.{stated, unstated, posting}
 use Rattle.walk.specs.steps.Walks.{postedIn}

@@ -54,19 +54,13 @@ fn is_dated(date: usize, year: usize, month: usize) -> bool
     (date / 10000 == year) & (date / 100 % 100 == month)
 }
 
-fn wide(n: u32) -> usize
-    ensures { λ r. ⌜ r ≡ n ⌝ }
-{
-    n as usize
-}
-
 // The date at the front of s.
 fn date_of(s: &[u8]) -> usize
     ensures { λ r. ⌜ r ≡ dateOf (dateAt (now (s .entry)) 0) ⌝ }
 {
     let d = date::date(s, 0);
     match d {
-        Dated::On(_, y) => wide(y),
+        Dated::On(_, y) => date::wide_date(y),
         Dated::Miss => 0,
     }
 }

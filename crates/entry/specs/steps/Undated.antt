@@ -11,9 +11,8 @@ use Rattle.text.specs.Answer.{Ans, To, more, _and_, _else_, must}
 use Rattle.text.specs.Leaves.{gap, tag, lineEnd}
 use Rattle.amount.specs.Kinds.{blankKind, optionKind, includeKind, pushtagKind, poptagKind, tagKind, stringKind}
 use Rattle.amount.specs.declared.detail.Detail.{Detail}
-use Rattle.amount.specs.Details.{Rows, span}
+use Rattle.amount.specs.Details.{Rows, span, quoted}
 use Rattle.amount.specs.Amounts.{hardGap}
-use Rattle.posting.specs.Metadata.{quoted}
 use Rattle.row.specs.declared.writer.Out.{Out}
 use Rattle.content.specs.Contents.{hardString}
 use Rattle.entry.specs.Directive.{option, include, tagged}

@@ -4,11 +4,10 @@ use mathlib.Core.Bool.{Bool, cond, _||_}
 use mathlib.Core.List.{List}
 use lib.Dec.{eqb}
 use lib.ListN.{getD}
-use Rattle.text.specs.Bytes.{isSmall}
+use Rattle.text.specs.Bytes.{isSmall, between}
 use Rattle.text.specs.Run.{blanks}
 use Rattle.text.specs.Permitted.{sizeLimit}
 use Rattle.amount.specs.Kinds.{blankKind, transactionKind}
-use Rattle.amount.specs.Literal.{between}
 use Rattle.ledger.specs.Strict.{lostLineNumber, flagNumber, isUsual, lostLine}
 use Rattle.ledger.specs.declared.strict.Objection.{Objection}
 

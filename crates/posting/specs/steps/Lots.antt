@@ -8,6 +8,7 @@ use lib.ListN.{getD}
 use Rattle.text.specs.Answer.{Ans, To, Miss, Hard, _and_, maybe}
 use Rattle.text.specs.Run.{blanks}
 use Rattle.text.specs.Leaves.{gap}
+use Rattle.text.specs.Lines.{commaAt}
 use Rattle.text.specs.Dates.{dateAt}
 use Rattle.text.specs.declared.Read.{Read}
 use Rattle.text.specs.declared.date.Dated.{Dated}
@@ -19,9 +20,6 @@ use Rattle.amount.specs.Amounts.{amount}
 use Rattle.amount.specs.steps.Answers.{noRow, oneOf}
 use Rattle.posting.specs.Costs.{Lot, price, cost}
 use Rattle.posting.specs.declared.cost.Lot as code
-
-unfoldable pub commaAt : List ℕ → ℕ → Read
-commaAt s at = let b = blanks s at in cond (eqb (getD s b 0) (code ",")) (Read.To (blanks s (b + 1))) Read.Miss
 
 unfoldable pub braceAt : List ℕ → ℕ → Read
 braceAt s at = let b = blanks s at in cond (eqb (getD s b 0) (code "}")) (Read.To (b + 1)) Read.Miss

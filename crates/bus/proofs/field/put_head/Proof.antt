@@ -8,8 +8,8 @@ use Rattle.bus.proofs.field.put_head.Tie as tie
 slice-write-to : tie.Need-slice-write-to
 slice-write-to c = search needs
 
-low-requires : tie.Need-low-requires
-low-requires c κs = search needs
+narrow-requires : tie.Need-narrow-requires
+narrow-requires c κs = search needs
 
 add-to : tie.Need-add-to
 add-to c = search needs
@@ -17,8 +17,8 @@ add-to c = search needs
 slice-write-to-2 : tie.Need-slice-write-to-2
 slice-write-to-2 c = simp length-set (omega arith)
 
-low-requires-2 : tie.Need-low-requires-2
-low-requires-2 c κs = search needs
+narrow-requires-2 : tie.Need-narrow-requires-2
+narrow-requires-2 c κs = search needs
 
 add-to-2 : tie.Need-add-to-2
 add-to-2 c = search needs
@@ -37,10 +37,10 @@ put-head-spec =
     tie.close
     (tie.spec
     slice-write-to
-    low-requires
+    narrow-requires
     add-to
     slice-write-to-2
-    low-requires-2
+    narrow-requires-2
     add-to-2
     slice-write-to-3
     same-length

@@ -1,6 +1,6 @@
 use Prim.Native.Nat.{_-_}
 use lib.ListN.{length}
-use Rattle.posting.proofs.ManyLaws.{Runs}
+use Rattle.row.proofs.ManyLaws.{Runs}
 use Rattle.content.specs.Contents.{further}
 use Rattle.content.specs.steps.Parts.{furthers}
 use Rattle.content.proofs.OpenLaws.{furthers-laws}

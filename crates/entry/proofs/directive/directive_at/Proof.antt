@@ -15,8 +15,8 @@ gap-requires c κs = search (needs, directive-laws)
 enum-known-g : tie.Need-enum-known-g
 enum-known-g c = search (needs, directive-laws)
 
-wide-requires : tie.Need-wide-requires
-wide-requires c κs = search (needs, directive-laws)
+wide-date-requires : tie.Need-wide-date-requires
+wide-date-requires c κs = search (needs, directive-laws)
 
 dateless-at-requires : tie.Need-dateless-at-requires
 dateless-at-requires c κs = search (needs, directive-laws)
@@ -47,7 +47,7 @@ directive-at-spec =
     enum-known-d
     gap-requires
     enum-known-g
-    wide-requires
+    wide-date-requires
     dateless-at-requires
     enum-told
     enum-told-2

@@ -1,7 +1,7 @@
 use lib.ListN.{length}
 use Rattle.text.specs.Answer.{many}
 use Rattle.posting.specs.Postings.{bodyStep}
-use Rattle.posting.proofs.ManyLaws.{Turns}
+use Rattle.row.proofs.ManyLaws.{Turns}
 use Rattle.posting.proofs.BodyWrites.{body-laws}
 use borrow.Author.Needs.{needs}
 use Rattle.posting.proofs.body.body_at.Statement.{statement}

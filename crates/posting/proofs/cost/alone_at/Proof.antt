@@ -12,8 +12,8 @@ enum-told c = search (needs, alone-laws)
 enum-known-d : tie.Need-enum-known-d
 enum-known-d c = search (needs, alone-laws)
 
-wide-requires : tie.Need-wide-requires
-wide-requires c κs = search (needs, alone-laws)
+wide-date-requires : tie.Need-wide-date-requires
+wide-date-requires c κs = search (needs, alone-laws)
 
 none-requires : tie.Need-none-requires
 none-requires c κs = search (needs, alone-laws)
@@ -46,7 +46,7 @@ alone-at-spec =
     enum-known-a
     enum-told
     enum-known-d
-    wide-requires
+    wide-date-requires
     none-requires
     enum-told-2
     none-requires-2

@@ -18,8 +18,8 @@ date-requires c κs = search (needs, amount-date-laws)
 enum-known-d : tie.Need-enum-known-d
 enum-known-d c = search (needs, amount-date-laws)
 
-wide-requires : tie.Need-wide-requires
-wide-requires c κs = search (needs, amount-date-laws)
+wide-date-requires : tie.Need-wide-date-requires
+wide-date-requires c κs = search (needs, amount-date-laws)
 
 enum-told : tie.Need-enum-told
 enum-told c = search (needs, amount-date-laws)
@@ -57,7 +57,7 @@ amount-date-spec =
     enum-known-c
     date-requires
     enum-known-d
-    wide-requires
+    wide-date-requires
     enum-told
     enum-told-2
     enum-told-3

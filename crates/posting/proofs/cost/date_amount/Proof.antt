@@ -18,8 +18,8 @@ amount-at-requires c κs = search (needs, date-amount-laws)
 enum-known-a : tie.Need-enum-known-a
 enum-known-a c = search (needs, date-amount-laws)
 
-wide-requires : tie.Need-wide-requires
-wide-requires c κs = search (needs, date-amount-laws)
+wide-date-requires : tie.Need-wide-date-requires
+wide-date-requires c κs = search (needs, date-amount-laws)
 
 enum-told : tie.Need-enum-told
 enum-told c = search (needs, date-amount-laws)
@@ -57,7 +57,7 @@ date-amount-spec =
     enum-known-c
     amount-at-requires
     enum-known-a
-    wide-requires
+    wide-date-requires
     enum-told
     enum-known-a-2
     enum-told-2

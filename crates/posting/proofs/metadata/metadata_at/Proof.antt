@@ -1,7 +1,7 @@
 use Prim.Native.Nat.{_-_}
 use lib.ListN.{length}
 use Rattle.posting.specs.Metadata.{metaStep, metadata}
-use Rattle.posting.proofs.ManyLaws.{Runs}
+use Rattle.row.proofs.ManyLaws.{Runs}
 use Rattle.posting.proofs.MetaWrites.{metadata-laws}
 use borrow.Author.Needs.{needs}
 use Rattle.posting.proofs.metadata.metadata_at.Statement.{statement}

@@ -18,8 +18,8 @@ same-length c = search needs
 returns : tie.Need-returns
 returns c = search (needs, posting-laws)
 
-low-requires : tie.Need-low-requires
-low-requires c κs = search needs
+narrow-requires : tie.Need-narrow-requires
+narrow-requires c κs = search needs
 
 put-two-requires : tie.Need-put-two-requires
 put-two-requires c κs = search needs
@@ -42,7 +42,7 @@ posting-spec =
     span-requires
     same-length
     returns
-    low-requires
+    narrow-requires
     put-two-requires
     span-requires-2
     same-length-2

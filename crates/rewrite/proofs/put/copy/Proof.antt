@@ -3,8 +3,8 @@ use borrow.Author.Needs.{needs}
 use Rattle.rewrite.proofs.put.copy.Statement.{statement}
 use Rattle.rewrite.proofs.put.copy.Tie as tie
 
-further-requires : tie.Need-further-requires
-further-requires c κs = search needs
+add-requires : tie.Need-add-requires
+add-requires c κs = search needs
 
 returns : tie.Need-returns
 returns c = search (needs, copy-laws)
@@ -12,8 +12,8 @@ returns c = search (needs, copy-laws)
 sub-if2 : tie.Need-sub-if2
 sub-if2 c = search needs
 
-further-requires-2 : tie.Need-further-requires-2
-further-requires-2 c κs = search needs
+add-requires-2 : tie.Need-add-requires-2
+add-requires-2 c κs = search needs
 
 returns-2 : tie.Need-returns-2
 returns-2 c = search (needs, copy-laws)
@@ -31,10 +31,10 @@ pub copy-spec : {M : Type 1} → statement M
 copy-spec =
     tie.close
     (tie.spec
-    further-requires
+    add-requires
     returns
     sub-if2
-    further-requires-2
+    add-requires-2
     returns-2
     copy-whole-requires
     same-length

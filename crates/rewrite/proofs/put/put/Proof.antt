@@ -15,12 +15,12 @@ same-length c = search needs
 returns : tie.Need-returns
 returns c = search needs
 
-further-requires : tie.Need-further-requires
-further-requires c κs = search needs
+add-requires : tie.Need-add-requires
+add-requires c κs = search needs
 
 returns-2 : tie.Need-returns-2
 returns-2 c = search (needs, put-laws)
 
 pub put-spec : {M : Type 1} → statement M
 put-spec =
-    tie.close (tie.spec slice-write-out add-result same-length returns further-requires returns-2)
+    tie.close (tie.spec slice-write-out add-result same-length returns add-requires returns-2)

@@ -1,6 +1,6 @@
 use Prim.Native.Nat.{_-_}
 use lib.ListN.{length}
-use Rattle.posting.proofs.ManyLaws.{Runs}
+use Rattle.row.proofs.ManyLaws.{Runs}
 use Rattle.transaction.specs.Transaction.{mark, marks}
 use Rattle.transaction.proofs.MarkLaws.{marks-laws}
 use borrow.Author.Needs.{needs}

@@ -9,8 +9,8 @@ date-requires c κs = search needs
 enum-known-d : tie.Need-enum-known-d
 enum-known-d c = search needs
 
-wide-requires : tie.Need-wide-requires
-wide-requires c κs = search needs
+wide-date-requires : tie.Need-wide-date-requires
+wide-date-requires c κs = search needs
 
 enum-told : tie.Need-enum-told
 enum-told c = search needs
@@ -23,4 +23,4 @@ returns-2 c = search (needs, date-laws)
 
 pub date-of-spec : {M : Type 1} → statement M
 date-of-spec =
-    tie.close (tie.spec date-requires enum-known-d wide-requires enum-told returns returns-2)
+    tie.close (tie.spec date-requires enum-known-d wide-date-requires enum-told returns returns-2)

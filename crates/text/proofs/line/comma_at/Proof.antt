@@ -1,7 +1,7 @@
-use Rattle.posting.proofs.LotLaws.{comma-laws}
+use Rattle.text.proofs.LineLaws.{comma-laws}
 use borrow.Author.Needs.{needs}
-use Rattle.posting.proofs.cost.comma_at.Statement.{statement}
-use Rattle.posting.proofs.cost.comma_at.Tie as tie
+use Rattle.text.proofs.line.comma_at.Statement.{statement}
+use Rattle.text.proofs.line.comma_at.Tie as tie
 
 run-requires : tie.Need-run-requires
 run-requires c κs = search (needs, comma-laws)

@@ -12,12 +12,12 @@ use Rattle.text.specs.Permitted.{sizeLimit}
 use Rattle.amount.specs.declared.detail.Detail.{Detail}
 use Rattle.amount.specs.Details.{Rows}
 use Rattle.amount.proofs.RowCounts.{Fits, fits-at}
-use Rattle.row.specs.steps.Writing.{Did, Writable}
+use Rattle.row.specs.steps.Writing.{Writable, Did}
 use Rattle.row.specs.declared.writer.Out.{Out}
 use Rattle.row.specs.declared.writer.Ran.{Ran}
 use Rattle.row.proofs.OutLaws.{rows-outs}
 use Rattle.row.proofs.SureLaws.{sure-more, sure-many}
 use Rattle.row.proofs.DidLaws.{did-none, did-more, did-past, maybe-sure, was-read, was-miss, was-hard}
 
 -- a reader for such a loop: it takes a byte at least, makes no more rows than it takes bytes, and misses at the end
 pub record Stepping (n : ℕ) (f : ℕ → Rows) : Type 0 where

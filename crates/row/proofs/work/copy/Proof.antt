@@ -3,9 +3,9 @@ use Prim.Native.Nat.{_+_, _-_}
 use mathlib.Core.Path.{_≡_}
 use lib.ListN.{length, drop}
 use lib.Seq.{sets}
-use Rattle.bus.proofs.CopyLaws.{copy-laws}
-use Rattle.bus.proofs.field.copy.Statement.{statement}
-use Rattle.bus.proofs.field.copy.Tie as tie
+use Rattle.row.proofs.WorkLaws.{copy-laws}
+use Rattle.row.proofs.work.copy.Statement.{statement}
+use Rattle.row.proofs.work.copy.Tie as tie
 
 abbrev Inv-loop : tie.InvT-loop
 Inv-loop from to₀ at i₀ to i = (sets to₀ at from ≡ sets to (at + i) (drop i from)) × (length to ≡ length to₀)

@@ -43,7 +43,7 @@ one-hard (Hard i n) r k p e q = cc
 
 -- ---- a token, and then another reader
 
-more-none : (a : Rows) → more [] a ≡ a
+pub more-none : (a : Rows) → more [] a ≡ a
 unfolding more
 more-none (To j xs) = refl
 more-none Miss = refl
