@@ -38,10 +38,15 @@ byte-low (suc k) x (suc i) = byte-low k (x / 256) i
 le-same : (k x : ℕ) → le k (un (le k x)) ≡ le k x
 le-same k x = subst (λ (n : ℕ). le n (un (le k x)) ≡ le k x) (length-le k x) (le-un (le k x) (byte-low k x))
 
+fields-same : (r u : Row) → le 4 (r .kind) ≡ le 4 (u .kind) → le 4 (r .start) ≡ le 4 (u .start) → le 4 (r .end) ≡ le 4 (u .end) → le 4 (r .line) ≡ le 4 (u .line)
+    → le 4 (r .p) ≡ le 4 (u .p) → le 4 (r .q) ≡ le 4 (u .q) → le 8 (r .bits) ≡ le 8 (u .bits) → fieldBytes r ≡ fieldBytes u
+unfolding fieldBytes
+fields-same r u k s e l p q b = both k (both s (both e (both l (both p (both q b)))))
+
 bytes-same : (r u : Row) → le 4 (r .kind) ≡ le 4 (u .kind) → le 4 (r .start) ≡ le 4 (u .start) → le 4 (r .end) ≡ le 4 (u .end) → le 4 (r .line) ≡ le 4 (u .line)
     → le 4 (r .p) ≡ le 4 (u .p) → le 4 (r .q) ≡ le 4 (u .q) → le 8 (r .bits) ≡ le 8 (u .bits) → rowBytes r ≡ rowBytes u
-unfolding rowBytes fieldBytes
-bytes-same r u k s e l p q b = both k (both s (both e (both l (both p (both q b)))))
+unfolding rowBytes
+bytes-same r u k s e l p q b = rw (fields-same r u k s e l p q b)
 
 wrapped-bytes : (r : Row) → rowBytes (wrapped r) ≡ rowBytes r
 unfolding wrapped
