@@ -15,16 +15,13 @@ use Rattle.row.specs.Field.{le, un, fieldLimit}
 use Rattle.row.specs.Row.{atKind, atStart, atEnd, atLine, atP, atQ, atValue, fieldsWidth, fieldBytes, fieldsIn, width, rowBytes, rowsBytes, rowIn, rowsIn}
 use Rattle.row.specs.Details.{spanned}
 use Rattle.row.proofs.FieldLaws.{length-le, un-le, le-un}
+use Rattle.row.proofs.SameBytes.{mod-four, both, bytes-same}
 use Rattle.row.proofs.ReadBack.{wrapped, rows-front}
 use Rattle.row.specs.Pouring.{bytesOf}
 use Rattle.entry.proofs.EntryLines.{OnLine}
 use Rattle.edit.specs.Edits.{moveOn, shift}
-use Rattle.row.proofs.WriteLaws.{mod-four}
 use Rattle.edit.specs.Afresh.{KeepsBytes}
 use Rattle.edit.proofs.MoveLaws.{moveAll}
-
-both : {x y v w : List ℕ} → x ≡ y → v ≡ w → x ++ v ≡ y ++ w
-both {x} {y} {v} {w} g h = ap (λ (z : List ℕ). z ++ v) g ∙ ap (λ (z : List ℕ). y ++ z) h
 
 -- ---- rows as their bytes say
 
@@ -38,11 +35,6 @@ byte-low (suc k) x (suc i) = byte-low k (x / 256) i
 
 le-same : (k x : ℕ) → le k (un (le k x)) ≡ le k x
 le-same k x = subst (λ (n : ℕ). le n (un (le k x)) ≡ le k x) (length-le k x) (le-un (le k x) (byte-low k x))
-
-bytes-same : (r u : Row) → le 4 (r .kind) ≡ le 4 (u .kind) → le 4 (r .start) ≡ le 4 (u .start) → le 4 (r .end) ≡ le 4 (u .end) → le 4 (r .line) ≡ le 4 (u .line)
-    → le 4 (r .p) ≡ le 4 (u .p) → le 4 (r .q) ≡ le 4 (u .q) → le 8 (r .bits) ≡ le 8 (u .bits) → rowBytes r ≡ rowBytes u
-unfolding rowBytes fieldBytes
-bytes-same r u k s e l p q b = both k (both s (both e (both l (both p (both q b)))))
 
 wrapped-bytes : (r : Row) → rowBytes (wrapped r) ≡ rowBytes r
 unfolding wrapped

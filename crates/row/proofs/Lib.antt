@@ -4,6 +4,7 @@ pub mod PouredLaws
 pub mod PourLaws
 pub mod WorkLaws
 pub mod TableLaws
+pub mod SameBytes
 pub mod WriteLaws
 pub mod LineLaws
 pub mod SweepLaws

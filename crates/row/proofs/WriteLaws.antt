@@ -14,20 +14,15 @@ use Rattle.decimal.specs.declared.Value.the-variants.{Known, Refused}
 use Rattle.amount.specs.declared.detail.Detail.{Detail}
 use Rattle.row.specs.Field.{le, fieldLimit}
 use Rattle.row.specs.Pouring.{poured, pouredAt}
-use Rattle.row.specs.Row.{rowOf, fieldBytes, rowBytes, room, pourAt}
+use Rattle.row.specs.Row.{rowOf, rowBytes, room, pourAt}
 use Rattle.row.specs.Details.{spanned, millionths, laid, valuePlace}
 use Rattle.row.specs.steps.Writing.{noted}
 use Rattle.row.specs.declared.table.Row.{Row}
 use Rattle.row.specs.declared.writer.Out.{Out}
+use Rattle.row.proofs.SameBytes.{mod-four, bytes-same}
 use Rattle.row.proofs.PourLaws.{pourAt-full}
 
 -- ---- the bytes of a row
-
-four : {a b c d w x y z : ℕ} → a ≡ w → b ≡ x → c ≡ y → d ≡ z → (a ∷ b ∷ c ∷ d ∷ []) ≡ (w ∷ x ∷ y ∷ z ∷ [])
-four e f g h = rw (e, f, g, h)
-
-pub mod-four : (x y : ℕ) → x % fieldLimit ≡ y % fieldLimit → le 4 x ≡ le 4 y
-mod-four x y h = four (omega arith) (omega arith) (omega arith) (omega arith)
 
 -- the low four bytes of a sum are those of the sum with the low four bytes
 low : (b x : ℕ) → le 4 (b + x % fieldLimit) ≡ le 4 (b + x)
@@ -37,33 +32,17 @@ low b x = mod-four (b + x % fieldLimit) (b + x) (omega arith)
 abbrev unlined : ℕ → ℕ → ℕ → ℕ → ℕ → ℕ → Row
 unlined k s e p q b = record { kind = k; start = s; end = e; line = 0; p = p; q = q; bits = b }
 
-fields-same : (k s e p q b s′ e′ p′ q′ : ℕ) → le 4 s ≡ le 4 s′ → le 4 e ≡ le 4 e′ → le 4 p ≡ le 4 p′ → le 4 q ≡ le 4 q′
-    → fieldBytes (unlined k s e p q b) ≡ fieldBytes (unlined k s′ e′ p′ q′ b)
-unfolding fieldBytes
-fields-same k s e p q b s′ e′ p′ q′ hs he hp hq =
-    let B : List ℕ → List ℕ → List ℕ → List ℕ → List ℕ = λ s e p q. le 4 k ++ (s ++ (e ++ (le 4 0 ++ (p ++ (q ++ le 8 b))))) in
-    ap (λ (z : List ℕ). B z (le 4 e) (le 4 p) (le 4 q)) hs
-    ∙ ap (λ (z : List ℕ). B (le 4 s′) z (le 4 p) (le 4 q)) he
-    ∙ ap (λ (z : List ℕ). B (le 4 s′) (le 4 e′) z (le 4 q)) hp
-    ∙ ap (λ (z : List ℕ). B (le 4 s′) (le 4 e′) (le 4 p′) z) hq
-
--- rows have the same bytes where each place has the same four
-row-same : (k s e p q b s′ e′ p′ q′ : ℕ) → le 4 s ≡ le 4 s′ → le 4 e ≡ le 4 e′ → le 4 p ≡ le 4 p′ → le 4 q ≡ le 4 q′
-    → rowBytes (unlined k s e p q b) ≡ rowBytes (unlined k s′ e′ p′ q′ b)
-unfolding rowBytes
-row-same k s e p q b s′ e′ p′ q′ hs he hp hq = rw (fields-same k s e p q b s′ e′ p′ q′ hs he hp hq)
-
 module _ (base : ℕ) (x : Detail) (b : ℕ) (r : Bool) (v : r ≡ spanned (x .kind)) (w : b ≡ twosOf (millionths (x .value))) where
   pub row-span : r ≡ true
       → rowBytes (unlined (x .kind) (base + x .start % fieldLimit) (base + x .end % fieldLimit) (base + x .p % fieldLimit) (base + x .q % fieldLimit) b)
       ≡ rowBytes (laid base x)
   unfolding laid rowOf
-  row-span e = rw (← v, e, w) (row-same _ _ _ _ _ _ _ _ _ _ (low base (x .start)) (low base (x .end)) (low base (x .p)) (low base (x .q)))
+  row-span e = rw (← v, e, w) (bytes-same _ _ refl (low base (x .start)) (low base (x .end)) refl (low base (x .p)) (low base (x .q)) refl)
 
   pub row-plain : r ≡ false
       → rowBytes (unlined (x .kind) (base + x .start % fieldLimit) (base + x .end % fieldLimit) (x .p) (x .q) b) ≡ rowBytes (laid base x)
   unfolding laid rowOf
-  row-plain e = rw (← v, e, w) (row-same _ _ _ _ _ _ _ _ _ _ (low base (x .start)) (low base (x .end)) refl refl)
+  row-plain e = rw (← v, e, w) (bytes-same _ _ refl (low base (x .start)) (low base (x .end)) refl refl refl refl)
 
 -- ---- a value's bytes
 

@@ -1,4 +1,4 @@
--- Things of w bytes each, f's, poured into a table: rows, and the records and items of M-108.
+-- Things of w bytes each, which f gives, poured into a table: rows, and the records and items of M-108.
 use Prim.Native.Nat.{ℕ, _*_, min}
 use mathlib.Core.Bool.{cond}
 use mathlib.Core.List.{List, [], _∷_, _++_}
