@@ -60,7 +60,7 @@ pub data Told : Type 0 where
 
 -- what the definitions of the promises answer
 unfoldable pub answered : Asked → Told
-unfolding Rounding.roundedOf Rounding.nearestSize Rounding.nearest Exact.decimalOf Exact.exact Exact.exactly Exact.valueIn Exact.negated Exact.sum Exact.difference Exact.product Exact.quotient Exact.twosOf Accounts.partFollows Accounts.partsFrom Accounts.accountAt Answer._then_ Answer.must Answer._else_ Answer.more Answer._and_ Answer.maybe Answer.many Bytes.isBlank Bytes.isSpace Bytes.isDigit Bytes.isSmall Bytes.isCapital Bytes.inLine Bytes.inComment Bytes.isEscaped Bytes.startsPart Bytes.inAccount Bytes.inCurrency Bytes.inTag Bytes.inLink Bytes.bytes Currencies.currencyAt Dates.asShape Dates.likeShape Dates.two Dates.dateIn Dates.dateAt Leaves.token Leaves.named Leaves.dated Leaves.gap Leaves.lineEnd Leaves.emptyLine Leaves.string Leaves.account Leaves.currency Leaves.tag Leaves.link Leaves.date Leaves.word Leaves.byte Lines.gapAt Lines.commentEnd Lines.eolAt Lines.lineEndAt Lines.emptyAt Permitted.permitted Permitted.clean Run.runFrom Run.runTo Strings.strFrom Strings.escFrom Strings.stringAt Tags.markedAt Words.startsWith Words.wordAt Amounts.amount Amounts.hardGap Amounts.hardCurrency Amounts.hardAmount Amounts.priceOf Expression.negatedValue Expression.operated Expression.combined Expression.isPlus Expression.isTimes Expression.goesOn Expression.chain Expression.atom Expression.products Expression.sums Expression.negation Expression.inGroup Expression.closed Expression.group Expression.within Expression.expressionIn Expression.expression Literal.inLiteral Literal.count Literal.number Literal.places Literal.plain Literal.literalAs Literal.unsigned Literal.literal Details.spanned Details.millionths Details.valuePlace Row.rowOf Row.feeds Costs.price Costs.comma Costs.inside Costs.cost Metadata.keyAt Metadata.key Metadata.quoted Metadata.value Metadata.metaLine Metadata.metaStep Metadata.metadata Postings.isFlag Postings.flag Postings.postingFlag Postings.units Postings.postingLine Postings.posting Postings.bodyStep Postings.body Content.hardAccount Content.hardString Content.tolerance Content.balanceOf Content.oneCurrency Content.further Content.currencies Content.booking Content.openOf Content.padOf Content.eventOf Transaction.opening Transaction.texts Transaction.mark Transaction.marks Transaction.transaction Directive.keyword Directive.option Directive.include Directive.tagged Entry.detailRow Entry.rowsOf Entry.judged Entry.settled Entry.entryOf Forms.asEntry Forms.dateless Forms.directive Forms.blank Forms.formOf Plain.move Plain.readFrom Plain.partAt Plain.plain Contents.endsAt Contents.valid Contents.unescaped Contents.escapedByte Contents.contentAnswer Single.valueAnswer Single.readAnswer Single.evaluated evaluatedOf writtenReply
+unfolding Rounding.roundedOf Rounding.nearestSize Rounding.nearest Exact.decimalOf Exact.exact Exact.exactly Exact.valueIn Exact.negated Exact.sum Exact.difference Exact.product Exact.quotient Exact.twosOf Accounts.partFollows Accounts.partsFrom Accounts.accountAt Answer._then_ Answer.must Answer._else_ Answer.more Answer._and_ Answer.maybe Answer.many Bytes.isBlank Bytes.isSpace Bytes.isDigit Bytes.isSmall Bytes.isCapital Bytes.inLine Bytes.inComment Bytes.isEscaped Bytes.startsPart Bytes.inAccount Bytes.inCurrency Bytes.inTag Bytes.inLink Bytes.bytes Currencies.currencyAt Dates.asShape Dates.likeShape Dates.two Dates.dateIn Dates.dateAt Leaves.token Leaves.named Leaves.dated Leaves.gap Leaves.lineEnd Leaves.emptyLine Leaves.string Leaves.account Leaves.currency Leaves.tag Leaves.link Leaves.date Leaves.word Leaves.byte Lines.gapAt Lines.commentEnd Lines.eolAt Lines.lineEndAt Lines.emptyAt Permitted.permitted Permitted.clean Run.runFrom Run.runTo Strings.strFrom Strings.escFrom Strings.stringAt Tags.markedAt Words.startsWith Words.wordAt Amounts.amount Leaves.hardGap Amounts.hardCurrency Amounts.hardAmount Amounts.priceOf Expression.negatedValue Expression.operated Expression.combined Expression.isPlus Expression.isTimes Expression.goesOn Expression.chain Expression.atom Expression.products Expression.sums Expression.negation Expression.inGroup Expression.closed Expression.group Expression.within Expression.expressionIn Expression.expression Literal.inLiteral Literal.count Literal.number Literal.places Literal.plain Literal.literalAs Literal.unsigned Literal.literal Details.spanned Details.millionths Details.valuePlace Row.rowOf Row.feeds Costs.price Costs.comma Costs.inside Costs.cost Metadata.keyAt Metadata.key Metadata.quoted Metadata.value Metadata.metaLine Metadata.metaStep Metadata.metadata Postings.isFlag Postings.flag Postings.postingFlag Postings.units Postings.postingLine Postings.posting Postings.bodyStep Postings.body Content.hardAccount Content.hardString Content.tolerance Content.balanceOf Content.oneCurrency Content.further Content.currencies Content.booking Content.openOf Content.padOf Content.eventOf Transaction.opening Transaction.texts Transaction.mark Transaction.marks Transaction.transaction Directive.keyword Directive.option Directive.include Directive.tagged Entry.detailRow Entry.rowsOf Entry.judged Entry.settled Entry.entryOf Forms.asEntry Forms.dateless Forms.directive Forms.blank Forms.formOf Plain.move Plain.readFrom Plain.partAt Plain.plain Contents.endsAt Contents.valid Contents.unescaped Contents.escapedByte Contents.contentAnswer Single.valueAnswer Single.readAnswer Single.evaluated evaluatedOf writtenReply
 answered (expression form s) = evaluated (evaluatedOf (Single.evaluated form s))
 answered (ledger s) = reading (Plain.plain s)
 answered (content s) = reply (writtenReply (Contents.contentAnswer s (length s)))
