@@ -12,6 +12,7 @@ use Rattle.decimal.specs.declared.Value.{Value}
 use Rattle.decimal.specs.declared.Value.the-variants.{Known, Refused}
 use Rattle.text.specs.Permitted.{clean, sizeLimit}
 use Rattle.text.specs.Answer.{Ans, To, Miss, Hard}
+use Rattle.text.specs.Refusals.{deepNumber}
 use Rattle.amount.specs.Expression.{expressionIn}
 use Rattle.amount.specs.steps.Answers.{answerOf}
 use Rattle.amount.specs.declared.expression.Answer.{Answer}
@@ -39,7 +40,7 @@ module _ (r : Answer) where
   unfolding toldOf
   told-miss q = rw q
 
-  pub told-deep : (i : ℕ) → r ≡ Answer.Deep i → Evaluated.Refusal 3 i ≡ toldOf r
+  pub told-deep : (i : ℕ) → r ≡ Answer.Deep i → Evaluated.Refusal deepNumber i ≡ toldOf r
   unfolding toldOf
   told-deep i q = rw q
 

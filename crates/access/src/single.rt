@@ -7,6 +7,7 @@ use decimal::Value;
 use text::bytes;
 use text::permitted;
 use text::permitted::SIZE;
+use text::refusal;
 ghost use mathlib.Core.Path.{_≡_};
 ghost use Rattle.access.specs.Single.{valueAnswer, evaluated};
 ghost use Rattle.access.specs.steps.Telling.{judgedOf, toldOf};
@@ -52,7 +53,7 @@ fn told(a: Answer) -> Evaluated
     match a {
         Answer::Read(e, v) => valued(e, v),
         Answer::Miss => Evaluated::Refusal(11, 0),
-        Answer::Deep(p) => Evaluated::Refusal(3, p),
+        Answer::Deep(p) => Evaluated::Refusal(refusal::DEEP, p),
     }
 }
 

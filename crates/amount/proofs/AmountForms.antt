@@ -8,13 +8,14 @@ use lib.Dec.{eqb}
 use Rattle.decimal.specs.declared.Value.{Value}
 use Rattle.text.proofs.TestLaws.{absurd-bool}
 use Rattle.text.specs.Answer.{Ans, To, Miss, Hard, _then_, more, _and_, must}
-use Rattle.text.specs.Leaves.{token, gap, currency}
+use Rattle.text.specs.Leaves.{token, gap, hardGap, currency}
 use Rattle.text.specs.Lines.{gapAt}
 use Rattle.text.specs.Currencies.{currencyAt}
 use Rattle.text.specs.declared.Read.{Read}
+use Rattle.text.specs.Refusals.{deepNumber, requiredNumber}
 use Rattle.amount.specs.Details.{Rows, span, valued}
 use Rattle.amount.specs.Expression.{expression}
-use Rattle.amount.specs.Amounts.{amount, hardGap, hardCurrency, hardAmount, priceOf}
+use Rattle.amount.specs.Amounts.{amount, hardCurrency, hardAmount, priceOf}
 use Rattle.amount.specs.steps.Answers.{answerOf, oneOf, amountEnd, pricedFrom, pairOf}
 use Rattle.amount.specs.declared.amounts.Priced.{Priced}
 use Rattle.amount.specs.declared.detail.Detail.{Detail}
@@ -26,7 +27,7 @@ use Rattle.amount.proofs.Refusals.{Three, expression-three}
 -- ---- after the expression: g is the gap's answer, u the currency's
 
 module _ (k : ℕ) (s : List ℕ) (at e : ℕ) (v : Value) (g : Read) (p : g ≡ gapAt s e) where
-  pub end-gap : g ≡ Read.Miss → One.Hard 4 e ≡ oneOf (amountEnd k s at e v)
+  pub end-gap : g ≡ Read.Miss → One.Hard requiredNumber e ≡ oneOf (amountEnd k s at e v)
   unfolding amountEnd hardGap gap token must _and_ oneOf
   end-gap q = rw (← p, q)
 
@@ -35,13 +36,13 @@ module _ (k : ℕ) (s : List ℕ) (at e : ℕ) (v : Value) (g : Read) (p : g ≡
     unfolding amountEnd hardGap gap currency token must _and_ more oneOf
     end-read d n = rw (← p, q, ← w, n)
 
-    pub end-unit : u ≡ Read.Miss → One.Hard 4 c ≡ oneOf (amountEnd k s at e v)
+    pub end-unit : u ≡ Read.Miss → One.Hard requiredNumber c ≡ oneOf (amountEnd k s at e v)
     unfolding amountEnd hardGap gap currency token must _and_ more oneOf
     end-unit n = rw (← p, q, ← w, n)
 
 -- ---- a required amount: x is the expression's answer
 
-pub deep-three : (a : Ans Value) (x : Answer) (i : ℕ) → Three a → x ≡ answerOf a → x ≡ Answer.Deep i → a ≡ Hard 3 i
+pub deep-three : (a : Ans Value) (x : Answer) (i : ℕ) → Three a → x ≡ answerOf a → x ≡ Answer.Deep i → a ≡ Hard deepNumber i
 deep-three a x i T p q = let h = was-deep a x i p q in h .1 ∙ ap (λ k. Hard k i) (subst Three (h .1) T)
 
 module _ (k : ℕ) (s : List ℕ) (at : ℕ) (x : Answer) (p : x ≡ answerOf (expression s at)) where
@@ -49,11 +50,11 @@ module _ (k : ℕ) (s : List ℕ) (at : ℕ) (x : Answer) (p : x ≡ answerOf (e
   unfolding hardAmount amountEnd must _then_
   required-read e v o q w = rw (was-read (expression s at) x e v p q) w
 
-  pub required-miss : x ≡ Answer.Miss → One.Hard 4 at ≡ oneOf (hardAmount k s at)
+  pub required-miss : x ≡ Answer.Miss → One.Hard requiredNumber at ≡ oneOf (hardAmount k s at)
   unfolding hardAmount must _then_ oneOf
   required-miss q = rw (was-miss (expression s at) x p q)
 
-  pub required-deep : (i : ℕ) → x ≡ Answer.Deep i → One.Hard 3 i ≡ oneOf (hardAmount k s at)
+  pub required-deep : (i : ℕ) → x ≡ Answer.Deep i → One.Hard deepNumber i ≡ oneOf (hardAmount k s at)
   unfolding hardAmount must _then_ oneOf
   required-deep i q = rw (deep-three (expression s at) x i (expression-three s at) p q)
 
@@ -61,18 +62,18 @@ module _ (k : ℕ) (s : List ℕ) (at : ℕ) (x : Answer) (p : x ≡ answerOf (e
 
 data Both : Rows → Rows → Type 0 where
   row : (j : ℕ) (d : Detail) → Both (To j (d ∷ [])) (To j (d ∷ []))
-  lacks : (i : ℕ) → Both (Hard 4 i) Miss
-  deep : (i : ℕ) → Both (Hard 3 i) (Hard 3 i)
+  lacks : (i : ℕ) → Both (Hard requiredNumber i) Miss
+  deep : (i : ℕ) → Both (Hard deepNumber i) (Hard deepNumber i)
 
 module _ (k : ℕ) (s : List ℕ) (at : ℕ) where
   both-ends : (e : ℕ) (v : Value) (g : Read) → gapAt s e ≡ g
-      → Both (hardGap s e and λ c. must c (currency s c) and λ d. To d (valued k at e c d v ∷ [])) (gap s e and λ c. currency s c and λ d. To d (valued k at e c d v ∷ []))
+      → Both (hardGap requiredNumber s e and λ c. must requiredNumber c (currency s c) and λ d. To d (valued k at e c d v ∷ [])) (gap s e and λ c. currency s c and λ d. To d (valued k at e c d v ∷ []))
   unfolding hardGap gap currency token must _and_ more
   both-ends e v Read.Miss p = rw p (lacks e)
   both-ends e v (Read.To c) p = rw p (go (currencyAt s c) refl)
     where
       go : (u : Read) → currencyAt s c ≡ u
-          → Both (more [] (must c (token (currencyAt s c)) and λ d. To d (valued k at e c d v ∷ []))) (more [] (token (currencyAt s c) and λ d. To d (valued k at e c d v ∷ [])))
+          → Both (more [] (must requiredNumber c (token (currencyAt s c)) and λ d. To d (valued k at e c d v ∷ []))) (more [] (token (currencyAt s c) and λ d. To d (valued k at e c d v ∷ [])))
       go (Read.To d) q = rw q (row d (valued k at e c d v))
       go Read.Miss q = rw q (lacks c)
 
@@ -81,7 +82,7 @@ module _ (k : ℕ) (s : List ℕ) (at : ℕ) where
   both-amounts = go (expression s at) (expression-three s at)
     where
       go : (a : Ans Value) → Three a
-          → Both (must at a then λ e v. hardGap s e and λ c. must c (currency s c) and λ d. To d (valued k at e c d v ∷ []))
+          → Both (must requiredNumber at a then λ e v. hardGap requiredNumber s e and λ c. must requiredNumber c (currency s c) and λ d. To d (valued k at e c d v ∷ []))
           (a then λ e v. gap s e and λ c. currency s c and λ d. To d (valued k at e c d v ∷ []))
       go (To e v) T = both-ends e v (gapAt s e) refl
       go Miss T = lacks at
@@ -100,11 +101,11 @@ was-none a (row i c) p q = absurd-bool (cc)
 was-none a (lacks i) p q = absurd-bool (cc)
 was-none a (deep i) p q = absurd-bool (cc)
 
-was-hard : {h r : Rows} (a : One) (n i : ℕ) → Both h r → a ≡ oneOf h → a ≡ One.Hard n i → (h ≡ Hard n i) × (r ≡ cond (eqb n 4) Miss (Hard n i))
+was-hard : {h r : Rows} (a : One) (n i : ℕ) → Both h r → a ≡ oneOf h → a ≡ One.Hard n i → (h ≡ Hard n i) × (r ≡ cond (eqb n requiredNumber) Miss (Hard n i))
 unfolding oneOf
 was-hard a n i (row j c) p q = (cc, cc)
-was-hard a n i (lacks j) p q = (cc, let e : n ≡ 4 = cc in rw e)
-was-hard a n i (deep j) p q = (cc, let e : n ≡ 3 = cc in rw e cc)
+was-hard a n i (lacks j) p q = (cc, let e : n ≡ requiredNumber = cc in rw e)
+was-hard a n i (deep j) p q = (cc, let e : n ≡ deepNumber = cc in rw e cc)
 
 module _ (k : ℕ) (s : List ℕ) (at : ℕ) (a : One) (p : a ≡ oneOf (hardAmount k s at)) where
   pub amount-read : (j : ℕ) (d : Detail) → a ≡ One.Read j d → One.Read j d ≡ oneOf (amount k s at)
@@ -114,18 +115,18 @@ module _ (k : ℕ) (s : List ℕ) (at : ℕ) (a : One) (p : a ≡ oneOf (hardAmo
   pub amount-none : a ≡ One.Miss → One.Miss ≡ oneOf (amount k s at)
   amount-none q = absurd (was-none a (both-amounts k s at) p q)
 
-  pub amount-lacks : (n i : ℕ) → a ≡ One.Hard n i → n ≡ 4 → One.Miss ≡ oneOf (amount k s at)
+  pub amount-lacks : (n i : ℕ) → a ≡ One.Hard n i → n ≡ requiredNumber → One.Miss ≡ oneOf (amount k s at)
   unfolding oneOf
   amount-lacks n i q f = rw (was-hard a n i (both-amounts k s at) p q .1, f)
 
-  pub amount-hard : (n i : ℕ) → a ≡ One.Hard n i → (n ≡ 4 → ⊥) → One.Hard n i ≡ oneOf (amount k s at)
+  pub amount-hard : (n i : ℕ) → a ≡ One.Hard n i → (n ≡ requiredNumber → ⊥) → One.Hard n i ≡ oneOf (amount k s at)
   unfolding oneOf
-  amount-hard n i q f = rw (was-hard a n i (both-amounts k s at) p q .1, ne-eqb n 4 f)
+  amount-hard n i q f = rw (was-hard a n i (both-amounts k s at) p q .1, ne-eqb n requiredNumber f)
 
 -- ---- prices: g is the gap's answer, a the amount's, u the currency's
 
 module _ (s : List ℕ) (at e : ℕ) (g : Read) (p : g ≡ gapAt s e) where
-  pub priced-gap : g ≡ Read.Miss → Priced.Hard 4 e ≡ pairOf (pricedFrom s at e)
+  pub priced-gap : g ≡ Read.Miss → Priced.Hard requiredNumber e ≡ pairOf (pricedFrom s at e)
   unfolding pricedFrom hardGap gap token must _and_ more pairOf
   priced-gap q = rw (← p, q)
 
@@ -134,7 +135,7 @@ module _ (s : List ℕ) (at e : ℕ) (g : Read) (p : g ≡ gapAt s e) where
     unfolding pricedFrom hardGap gap token must _and_ more pairOf
     priced-read f d n = rw (← p, q, was-row a f d (both-amounts 26 s j) w n .0)
 
-    pub priced-none : a ≡ One.Miss → Priced.Hard 4 j ≡ pairOf (pricedFrom s at e)
+    pub priced-none : a ≡ One.Miss → Priced.Hard requiredNumber j ≡ pairOf (pricedFrom s at e)
     priced-none n = absurd (was-none a (both-amounts 26 s j) w n)
 
     pub priced-hard : (n i : ℕ) → a ≡ One.Hard n i → Priced.Hard n i ≡ pairOf (pricedFrom s at e)
@@ -146,7 +147,7 @@ module _ (s : List ℕ) (at : ℕ) (u : Read) (p : u ≡ currencyAt s at) where
   unfolding priceOf pricedFrom hardCurrency currency token must _and_ more
   price-read e o q w = rw (← p, q) w
 
-  pub price-miss : u ≡ Read.Miss → Priced.Hard 4 at ≡ pairOf (priceOf s at)
+  pub price-miss : u ≡ Read.Miss → Priced.Hard requiredNumber at ≡ pairOf (priceOf s at)
   unfolding priceOf hardCurrency currency token must _and_ pairOf
   price-miss q = rw (← p, q)
 

@@ -16,6 +16,7 @@ use Rattle.text.proofs.Joins.{Reach}
 use Rattle.text.proofs.Alike.{Alike, both-to, both-hard, then-alike, else-alike, cond-alike, if-alike, alike-from}
 use Rattle.text.proofs.SharedLines.{Shared, byte-same, told, step, run-both, run-alike, blanks-alike}
 use Rattle.amount.specs.Literal.{inLiteral, plain, literalAs, unsigned, literal}
+use Rattle.text.specs.Refusals.{deepNumber}
 use Rattle.amount.specs.Expression.{Arithmetic, combined, expressionIn, isPlus, isTimes, goesOn, chain, atom, products, sums, negation, inGroup, closed, group, groups, within, expression}
 use Rattle.amount.proofs.ExpressionEnds.{atom-reach, products-reach, group-reach}
 
@@ -116,7 +117,7 @@ module _ {Q : Type 0} {s z : List ℕ} {K P : ℕ → ℕ → Type 0} (L : Share
 
   group-alike : (calc : Arithmetic) (n : ℕ) → Readers (group calc n s) (group calc n z)
   unfolding group
-  group-alike calc zero i j S = rw (byte-same L S) (if-alike (eqb (getD s i 0) 40) _ _ (λ _. both-hard 3 i j (told L S)))
+  group-alike calc zero i j S = rw (byte-same L S) (if-alike (eqb (getD s i 0) 40) _ _ (λ _. both-hard deepNumber i j (told L S)))
   group-alike calc (suc n) i j S =
       rw (byte-same L S) (if-alike (eqb (getD s i 0) 40) _ _
       (λ e. then-alike _ _ (in-group-alike calc (group calc n s) (group calc n z) (group-alike calc n) (group-reach s calc n) (group-reach z calc n) _ _ (after (λ c. eqb c 40) refl S e)) closed-alike))

@@ -17,6 +17,7 @@ use Rattle.text.specs.Answer.{Ans, To, Miss, Hard, _then_, _else_}
 use Rattle.text.proofs.Steps.{byte-within, getD-past, run-ends, run-from, run-within, run-first}
 use Rattle.text.proofs.Joins.{Reach, to-reach, miss-reach, hard-reach, reach-from, cond-reach, then-reach, else-reach}
 use Rattle.amount.specs.Literal.{inLiteral, count, plain, literalAs, unsigned, literal}
+use Rattle.text.specs.Refusals.{deepNumber}
 use Rattle.amount.specs.Expression.{Arithmetic, combined, expressionIn, negatedValue, isPlus, isTimes, goesOn, chain, atom, products, sums, negation, inGroup, closed, group, groups, within, expression}
 
 -- ---- runs from any place
@@ -151,8 +152,8 @@ module _ (s : List ℕ) where
 
   pub group-reach : (calc : Arithmetic) (n at : ℕ) → Reach N (at + 1) (group calc n s at)
   unfolding group
-  group-reach calc zero at = if-reach N (at + 1) (eqb (getD s at 0) 40) (Hard 3 at)
-      (λ t. let w = byte-within s at 40 (sym (eqb-true _ 40 t)) (omega arith) in hard-reach N (at + 1) 3 at (omega arith))
+  group-reach calc zero at = if-reach N (at + 1) (eqb (getD s at 0) 40) (Hard deepNumber at)
+      (λ t. let w = byte-within s at 40 (sym (eqb-true _ 40 t)) (omega arith) in hard-reach N (at + 1) deepNumber at (omega arith))
   group-reach calc (suc n) at =
       let i = blanks s (at + 1) in
       if-reach N (at + 1) (eqb (getD s at 0) 40) (inGroup calc (group calc n s) s i then closed s)

@@ -13,6 +13,7 @@ use Rattle.decimal.specs.Exact.{Knows, sum, difference, product, quotient}
 use Rattle.decimal.proofs.ExactKept.{product-kept, quotient-kept}
 use Rattle.text.specs.Run.{blanks}
 use Rattle.text.specs.Answer.{Ans, To, Miss, Hard, _then_, _else_}
+use Rattle.text.specs.Refusals.{deepNumber}
 use Rattle.amount.specs.Literal.{literal}
 use Rattle.amount.specs.Expression.{Arithmetic, negatedValue, operated, combined, isPlus, isTimes, goesOn, chain, atom, products, sums, negation, inGroup, closed, group, groups, within, expressionIn}
 use Rattle.amount.specs.Agreement.{Alike, FormsAgree}
@@ -80,7 +81,7 @@ module _ (R : Value → Value → Type 0) where
 
     group-alike : (n at : ℕ) → Alike R (group one n s at) (group two n s at)
     unfolding group closed
-    group-alike zero at = itself (cond (eqb (getD s at 0) 40) (Hard 3 at) Miss)
+    group-alike zero at = itself (cond (eqb (getD s at 0) 40) (Hard deepNumber at) Miss)
     group-alike (suc n) at =
         let i = blanks s (at + 1) in
         cond-alike (eqb (getD s at 0) 40) _ Miss _ Miss

@@ -10,6 +10,7 @@ use Rattle.decimal.specs.declared.Form.the-variants.{Rounding}
 use Rattle.decimal.specs.declared.Value.{Value}
 use Rattle.text.specs.Run.{blanks}
 use Rattle.text.specs.Answer.{Ans, To, Miss, Hard, _then_, _else_}
+use Rattle.text.specs.Refusals.{deepNumber}
 use Rattle.amount.specs.Literal.{plain, literalAs, unsigned, literal}
 use Rattle.amount.specs.Expression.{Arithmetic, combined, expressionIn, isPlus, isTimes, goesOn, chain, atom, products, sums, negation, inGroup, closed, group, groups, within, expression}
 
@@ -92,7 +93,7 @@ module _ (s : List ℕ) where
 
   group-three : (calc : Arithmetic) (n at : ℕ) → Three (group calc n s at)
   unfolding group closed
-  group-three calc zero at = cond-three (eqb (getD s at 0) 40) (Hard 3 at) Miss refl tt
+  group-three calc zero at = cond-three (eqb (getD s at 0) 40) (Hard deepNumber at) Miss refl tt
   group-three calc (suc n) at =
       cond-three (eqb (getD s at 0) 40) _ Miss
       (then-three (inGroup calc (group calc n s) s (blanks s (at + 1))) (closed s) (inGroup-three calc (group calc n s) (group-three calc n) (blanks s (at + 1)))

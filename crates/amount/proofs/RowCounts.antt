@@ -14,11 +14,12 @@ use Rattle.text.specs.Accounts.{accountAt}
 use Rattle.text.specs.Strings.{stringAt}
 use Rattle.text.specs.Tags.{markedAt}
 use Rattle.text.specs.Answer.{Ans, To, Miss, Hard, _then_, must, _else_, more, _and_, maybe, many}
-use Rattle.text.specs.Leaves.{token, named, gap, comma, lineEnd, emptyLine, string, account, currency, tag, link, word, byte}
+use Rattle.text.specs.Leaves.{token, named, gap, comma, lineEnd, emptyLine, string, account, currency, tag, link, word, byte, hardGap}
 use Rattle.text.specs.declared.Read.{Read}
 use Rattle.text.specs.declared.account.AccountRead.{AccountRead}
 use Rattle.text.proofs.Joins.{Reach}
 use Rattle.text.proofs.TokenEnds.{string-reach}
+use Rattle.text.specs.Refusals.{secondPartNumber}
 use Rattle.amount.specs.declared.detail.Detail.{Detail}
 use Rattle.amount.specs.Details.{Rows, span, named as naming, valued, quoted}
 pub use Rattle.amount.specs.Kinds.{flagKind, costKind, postingKind, refusalKind}
@@ -159,11 +160,11 @@ module _ {A : Type 0} {K : Kinds} {s : List ℕ} {w : A → List Detail} where
   fits-wide L k Miss b r = record { rows = tt }
   fits-wide L k (Hard i p) b r = record { rows = tt }
 
-  pub must-fits : (k at : ℕ) (a : Ans A) → Holds K s w k a → Holds K s w k (must at a)
+  pub must-fits : (k n at : ℕ) (a : Ans A) → Holds K s w k a → Holds K s w k (must n at a)
   unfolding must
-  must-fits k at (To j x) r = r
-  must-fits k at Miss r = hard-fits k 4 at
-  must-fits k at (Hard i p) r = r
+  must-fits k n at (To j x) r = r
+  must-fits k n at Miss r = hard-fits k n at
+  must-fits k n at (Hard i p) r = r
 
   pub else-fits : (k : ℕ) (a b : Ans A) → Holds K s w k a → Holds K s w k b → Holds K s w k (a else b)
   unfolding _else_
@@ -241,11 +242,11 @@ pub test-bare : (b : Bool) (j : ℕ) → Bare (cond b (To j []) Miss)
 test-bare true j = record { none = refl }
 test-bare false j = record { none = tt }
 
-pub must-bare : (at : ℕ) (a : Rows) → Bare a → Bare (must at a)
+pub must-bare : (n at : ℕ) (a : Rows) → Bare a → Bare (must n at a)
 unfolding must
-must-bare at (To j x) h = h
-must-bare at Miss h = record { none = tt }
-must-bare at (Hard k p) h = h
+must-bare n at (To j x) h = h
+must-bare n at Miss h = record { none = tt }
+must-bare n at (Hard k p) h = h
 
 pub bare-fits : {K : Kinds} {s : List ℕ} (n k : ℕ) (a : Rows) → Reach n k a → Bare a → FitsFrom K s k a
 bare-fits n k (To j xs) r e = rw (e .none) (to-fits k j [] (omega arith))
@@ -273,6 +274,10 @@ module _ (s : List ℕ) (at : ℕ) where
   unfolding comma
   comma-bare = token-bare _
 
+  pub hard-gap-bare : (n : ℕ) → Bare (hardGap n s at)
+  unfolding hardGap
+  hard-gap-bare n = must-bare n at _ gap-bare
+
   pub line-bare : Bare (lineEnd s at)
   unfolding lineEnd
   line-bare = token-bare _
@@ -285,7 +290,7 @@ module _ (s : List ℕ) (at : ℕ) where
   unfolding account named
   account-bare = on (accountAt s at)
     where
-      on : (r : AccountRead) → Bare (named at r)
+      on : (r : AccountRead) → Bare (named secondPartNumber at r)
       on (AccountRead.To j) = record { none = refl }
       on AccountRead.Miss = record { none = tt }
       on AccountRead.Hard = record { none = tt }

@@ -18,6 +18,7 @@ use Rattle.decimal.specs.declared.Value.{Value}
 use Rattle.decimal.specs.declared.Value.the-variants.{Known, Refused}
 use Rattle.text.specs.Run.{blanks}
 use Rattle.text.specs.Answer.{Ans, To, Miss, Hard, _then_, _else_}
+use Rattle.text.specs.Refusals.{deepNumber}
 use Rattle.amount.specs.Details.{zeroValue}
 use Rattle.amount.specs.Literal.{literalAs, plain, unsigned, literal}
 use Rattle.amount.specs.Expression.{groups, Arithmetic, negatedValue, operated, combined, isPlus, isTimes, goesOn, chain, atom, products, sums, negation, inGroup, closed, group, within, expressionIn, expression}
@@ -170,7 +171,7 @@ module _ (calc : Arithmetic) (keeps : Keeps calc) where
 
   group-small : (n : ℕ) (s : List ℕ) (at : ℕ) → Smalls (group calc n s at)
   unfolding group
-  group-small zero s at = if-small (eqb (getD s at 0) 40) (Hard 3 at) Miss (hard-small 3 at) no-small
+  group-small zero s at = if-small (eqb (getD s at 0) 40) (Hard deepNumber at) Miss (hard-small deepNumber at) no-small
   group-small (suc n) s at =
       if-small (eqb (getD s at 0) 40) _ Miss
       (then-small _ _ (in-group-small (group calc n s) s (λ i. group-small n s i) (blanks s (at + 1))) (λ e v p. closed-small s e v p)) no-small

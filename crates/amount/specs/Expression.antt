@@ -15,6 +15,7 @@ use Rattle.decimal.specs.declared.Value.{Value}
 use Rattle.decimal.specs.declared.Value.the-variants.{Known, Refused}
 use Rattle.text.specs.Run.{blanks}
 use Rattle.text.specs.Answer.{Ans, To, Miss, Hard, _then_, _else_}
+use Rattle.text.specs.Refusals.{deepNumber}
 use Rattle.amount.specs.Literal.{literal}
 
 -- how many groups may be open around a place: refusal 3 where one opens inside so many
@@ -91,7 +92,7 @@ closed s e v = cond (eqb (getD s (blanks s e) 0) (code ")")) (To (blanks s e + 1
 
 -- a group where n more may open: refusal 3 at its `(` where none may
 unfoldable pub group : Arithmetic → ℕ → List ℕ → ℕ → Ans Value
-group calc zero s at = cond (eqb (getD s at 0) (code "(")) (Hard 3 at) Miss
+group calc zero s at = cond (eqb (getD s at 0) (code "(")) (Hard deepNumber at) Miss
 group calc (suc n) s at =
     let inner = inGroup calc (group calc n s) s (blanks s (at + 1)) then closed s in
     cond (eqb (getD s at 0) (code "(")) inner Miss

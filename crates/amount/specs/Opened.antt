@@ -11,6 +11,6 @@ unfolding texts.opened decimals.opened Literal.inLiteral Literal.count Literal.n
     Literal.literalAs Literal.unsigned Literal.literal Expression.negatedValue Expression.operated Expression.combined
     Expression.isPlus Expression.isTimes Expression.goesOn Expression.chain Expression.atom Expression.products
     Expression.sums Expression.negation Expression.inGroup Expression.closed Expression.group Expression.within
-    Expression.expressionIn Expression.expression Details.quoted Amounts.amount Amounts.hardGap Amounts.hardCurrency
+    Expression.expressionIn Expression.expression Details.quoted Amounts.amount Amounts.hardCurrency
     Amounts.hardAmount Amounts.priceOf
 opened = tt

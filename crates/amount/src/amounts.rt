@@ -9,6 +9,7 @@ use decimal::Value;
 use text::Read;
 use text::currency;
 use text::line;
+use text::refusal;
 ghost use mathlib.Core.Path.{_≡_};
 ghost use mathlib.Core.List.{[], _∷_};
 ghost use Rattle.amount.specs.Amounts.{amount, hardAmount, priceOf};
@@ -40,10 +41,10 @@ fn required_end(s: &[u8], kind: usize, at: usize, e: usize, v: Value) -> One
                         value: v,
                     },
                 ),
-                Read::Miss => One::Hard(4, c),
+                Read::Miss => One::Hard(refusal::REQUIRED, c),
             }
         }
-        Read::Miss => One::Hard(4, e),
+        Read::Miss => One::Hard(refusal::REQUIRED, e),
     }
 }
 
@@ -54,8 +55,8 @@ pub fn required_amount(s: &[u8], at: usize, kind: usize) -> One
     let x = expression::expression_at(s, at);
     match x {
         Answer::Read(e, v) => required_end(s, kind, at, e, v),
-        Answer::Miss => One::Hard(4, at),
-        Answer::Deep(p) => One::Hard(3, p),
+        Answer::Miss => One::Hard(refusal::REQUIRED, at),
+        Answer::Deep(p) => One::Hard(refusal::DEEP, p),
     }
 }
 
@@ -67,7 +68,13 @@ pub fn amount_at(s: &[u8], at: usize, kind: usize) -> One
     match a {
         One::Read(e, d) => One::Read(e, d),
         One::Miss => One::Miss,
-        One::Hard(k, p) => { if k == 4 { One::Miss } else { One::Hard(k, p) } }
+        One::Hard(k, p) => {
+            if k == refusal::REQUIRED {
+                One::Miss
+            } else {
+                One::Hard(k, p)
+            }
+        }
     }
 }
 
@@ -94,11 +101,11 @@ fn priced_from(s: &[u8], at: usize, e: usize) -> Priced
                     };
                     Priced::Read(f, unit, d)
                 }
-                One::Miss => Priced::Hard(4, j),
+                One::Miss => Priced::Hard(refusal::REQUIRED, j),
                 One::Hard(k, p) => Priced::Hard(k, p),
             }
         }
-        Read::Miss => Priced::Hard(4, e),
+        Read::Miss => Priced::Hard(refusal::REQUIRED, e),
     }
 }
 
@@ -109,6 +116,6 @@ pub fn price_at(s: &[u8], at: usize) -> Priced
     let u = currency::currency(s, at);
     match u {
         Read::To(e) => priced_from(s, at, e),
-        Read::Miss => Priced::Hard(4, at),
+        Read::Miss => Priced::Hard(refusal::REQUIRED, at),
     }
 }

@@ -8,14 +8,14 @@ use lib.ListN.{length, getD}
 use Rattle.decimal.specs.declared.Value.{Value}
 use Rattle.text.specs.Run.{blanks}
 use Rattle.text.specs.Answer.{Ans, To, Miss, Hard, _then_, must, _and_, maybe}
-use Rattle.text.specs.Leaves.{token, gap, currency}
+use Rattle.text.specs.Leaves.{token, gap, hardGap, currency}
 use Rattle.text.specs.Lines.{gapAt}
 use Rattle.text.specs.Currencies.{currencyAt}
 use Rattle.text.specs.declared.Read.{Read}
 use Rattle.text.proofs.Steps.{getD-past}
+use Rattle.text.specs.Refusals.{deepNumber, requiredNumber}
 use Rattle.amount.specs.Details.{Rows, valued}
 use Rattle.amount.specs.Expression.{expression}
-use Rattle.amount.specs.Amounts.{hardGap}
 use Rattle.amount.specs.steps.Answers.{answerOf, noRow, oneOf}
 use Rattle.amount.specs.declared.detail.Detail.{Detail}
 use Rattle.amount.specs.declared.detail.One.{One}
@@ -49,7 +49,7 @@ module _ (s : List ℕ) (at i : ℕ) (x : Answer) (p : x ≡ answerOf (expressio
   unfolding toleranceRead _then_ maybe oneOf
   tolerance-none d q w = rw (was-miss (expression s i) x p q, w)
 
-  pub tolerance-deep : (k : ℕ) → x ≡ Answer.Deep k → One.Hard 3 k ≡ oneOf (toleranceRead s at i)
+  pub tolerance-deep : (k : ℕ) → x ≡ Answer.Deep k → One.Hard deepNumber k ≡ oneOf (toleranceRead s at i)
   unfolding toleranceRead _then_ maybe oneOf
   tolerance-deep k q = rw (deep-three (expression s i) x k (expression-three s i) p q)
 
@@ -84,36 +84,36 @@ module _ (base g e : ℕ) (v : Value) (n : Detail) (s : List ℕ) (at : ℕ) (o 
   ended c d = To d (valued 26 g e c d v ∷ someRow n)
 
   abbrev unit : ℕ → Rows
-  unit c = must c (token (currencyAt s c)) and ended c
+  unit c = must requiredNumber c (token (currencyAt s c)) and ended c
 
-  pub end-gap : (u : List ℕ) → x ≡ Read.Miss → Did base (balanceEnd g e v n s at) o t u (Ran.Hard 4 at)
+  pub end-gap : (u : List ℕ) → x ≡ Read.Miss → Did base (balanceEnd g e v n s at) o t u (Ran.Hard requiredNumber at)
   unfolding balanceEnd hardGap gap currency
-  end-gap u q = must-token-miss base o t x (gapAt s at) p unit at u q
+  end-gap u q = must-token-miss base o t x (gapAt s at) p unit requiredNumber at u q
 
   module _ (c : ℕ) (q : x ≡ Read.To c) (y : Read) (w : y ≡ currencyAt s c) where
-    pub end-unit : (u : List ℕ) → y ≡ Read.Miss → Did base (balanceEnd g e v n s at) o t u (Ran.Hard 4 c)
+    pub end-unit : (u : List ℕ) → y ≡ Read.Miss → Did base (balanceEnd g e v n s at) o t u (Ran.Hard requiredNumber c)
     unfolding balanceEnd hardGap gap currency
     end-unit u k =
-        must-token-read base o t x (gapAt s at) p unit at c u (Ran.Hard 4 c) q (must-token-miss base o t y (currencyAt s c) w (ended c) c u k)
+        must-token-read base o t x (gapAt s at) p unit requiredNumber at c u (Ran.Hard requiredNumber c) q (must-token-miss base o t y (currencyAt s c) w (ended c) requiredNumber c u k)
 
     pub end-read : (d : ℕ) (m : Out) (u : List ℕ) → y ≡ Read.To d → m ≡ outs o (valued 26 g e c d v ∷ someRow n)
         → u ≡ pourAt (o .rows) (map (laid base) (valued 26 g e c d v ∷ someRow n)) t → Did base (balanceEnd g e v n s at) o t u (Ran.To d m)
     unfolding balanceEnd hardGap gap currency
     end-read d m u k i j =
-        must-token-read base o t x (gapAt s at) p unit at c u (Ran.To d m) q
-        (must-token-read base o t y (currencyAt s c) w (ended c) c d u (Ran.To d m) k (did-read base o t (ended c d) d _ m u refl (i, j)))
+        must-token-read base o t x (gapAt s at) p unit requiredNumber at c u (Ran.To d m) q
+        (must-token-read base o t y (currencyAt s c) w (ended c) requiredNumber c d u (Ran.To d m) k (did-read base o t (ended c d) d _ m u refl (i, j)))
 
 -- ---- the amount: x is the expression's answer, y the tolerance's
 
 module _ (base : ℕ) (s : List ℕ) (at : ℕ) (o : Out) (t : List ℕ) (x : Answer) (p : x ≡ answerOf (expression s at)) where
   abbrev after : ℕ → Value → ℕ → List Detail → Rows
-  after e v f ts = hardGap s f and λ c. must c (currency s c) and λ d. To d (valued 26 at e c d v ∷ ts)
+  after e v f ts = hardGap requiredNumber s f and λ c. must requiredNumber c (currency s c) and λ d. To d (valued 26 at e c d v ∷ ts)
 
-  pub amount-none : (u : List ℕ) → x ≡ Answer.Miss → Did base (balanceAmount s at) o t u (Ran.Hard 4 at)
+  pub amount-none : (u : List ℕ) → x ≡ Answer.Miss → Did base (balanceAmount s at) o t u (Ran.Hard requiredNumber at)
   unfolding balanceAmount must _then_
   amount-none u q = rw (was-miss (expression s at) x p q) refl
 
-  pub amount-deep : (k : ℕ) (u : List ℕ) → x ≡ Answer.Deep k → Did base (balanceAmount s at) o t u (Ran.Hard 3 k)
+  pub amount-deep : (k : ℕ) (u : List ℕ) → x ≡ Answer.Deep k → Did base (balanceAmount s at) o t u (Ran.Hard deepNumber k)
   unfolding balanceAmount must _then_
   amount-deep k u q = rw (deep-three (expression s at) x k (expression-three s at) p q) refl
 
@@ -137,11 +137,11 @@ module _ (base : ℕ) (s : List ℕ) (at : ℕ) (o : Out) (t : List ℕ) (x : An
 -- ---- the whole
 
 module _ (s : List ℕ) where
-  then-sure : {A : Type 0} (a : Ans A) (f : ℕ → A → Rows) (i : ℕ) → ((e : ℕ) (x : A) → Sure (f e x)) → Sure (must i a then f)
+  then-sure : {A : Type 0} (a : Ans A) (f : ℕ → A → Rows) (n i : ℕ) → ((e : ℕ) (x : A) → Sure (f e x)) → Sure (must n i a then f)
   unfolding must _then_
-  then-sure (To e x) f i h = h e x
-  then-sure Miss f i h = sure-hard
-  then-sure (Hard k p) f i h = sure-hard
+  then-sure (To e x) f n i h = h e x
+  then-sure Miss f n i h = sure-hard
+  then-sure (Hard k p) f n i h = sure-hard
 
   maybe-then-sure : (a : Rows) (f : ℕ → List Detail → Rows) (i : ℕ) → ((e : ℕ) (x : List Detail) → Sure (f e x)) → Sure (maybe i a then f)
   unfolding maybe _then_
@@ -152,9 +152,9 @@ module _ (s : List ℕ) where
   amount-sure : (at : ℕ) → Sure (balanceAmount s at)
   unfolding balanceAmount toleranceOf hardGap
   amount-sure at =
-      then-sure (expression s at) _ at (λ e v.
+      then-sure (expression s at) _ requiredNumber at (λ e v.
       maybe-then-sure (tolerance s e) _ e (λ f ts.
-      sure-and _ (sure-must f (gap s f)) (λ c. sure-and _ (sure-must c (currency s c)) (λ d. sure-to))))
+      sure-and _ (sure-must requiredNumber f (gap s f)) (λ c. sure-and _ (sure-must requiredNumber c (currency s c)) (λ d. sure-to))))
 
   balance-is : (at : ℕ) → balanceOf s at ≡ (hardAccount s at and pastGap balanceAmount s)
   unfolding balanceOf pastGap balanceAmount toleranceOf

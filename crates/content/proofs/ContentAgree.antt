@@ -11,19 +11,18 @@ use lib.ListN.{length, getD}
 use Rattle.text.specs.Run.{blanks}
 use Rattle.text.specs.Lines.{gapAt, commentEnd, eolAt, lineEndAt}
 use Rattle.text.specs.Answer.{To, Miss, more, _and_, maybe}
-use Rattle.text.specs.Leaves.{token, gap, lineEnd}
+use Rattle.text.specs.Leaves.{token, gap, hardGap, lineEnd}
 use Rattle.text.specs.declared.Read.{Read}
 use Rattle.text.proofs.Steps.{byte-within}
 use Rattle.text.proofs.Joins.{Reach, reach-from, and-reach, and-parts}
 use Rattle.text.proofs.Alike.{Same, Upto, upto, same-eq, same-ends, and-alike, maybe-alike}
-use Rattle.text.proofs.SharedLines.{Shared, gap-alike, line-alike}
+use Rattle.text.proofs.SharedLines.{Shared, gap-alike, line-alike, hard-gap-alike}
 use Rattle.text.specs.Boundaries.{isStart}
-use Rattle.text.proofs.TokenEnds.{line-reach}
+use Rattle.text.proofs.TokenEnds.{line-reach, hard-gap-reach}
 use Rattle.text.proofs.TextCut.{xs, s, cut, same-byte}
+use Rattle.text.specs.Refusals.{requiredNumber}
 use Rattle.amount.specs.declared.detail.Detail.{Detail}
 use Rattle.amount.specs.Details.{Rows, span, quoted}
-use Rattle.amount.specs.Amounts.{hardGap}
-use Rattle.amount.proofs.AmountLaws.{hard-gap-reach, hard-gap-alike}
 use Rattle.row.specs.Strings.{counted}
 use Rattle.row.proofs.SureLaws.{Sure, sure-must, sure-and}
 use Rattle.posting.specs.Metadata.{metadata}
@@ -65,13 +64,13 @@ counted-34 : counted 34 ≡ true
 unfolding counted
 counted-34 = refl
 
-hard-gap-sure : (s : List ℕ) (at : ℕ) → Sure (hardGap s at)
+hard-gap-sure : (n : ℕ) (s : List ℕ) (at : ℕ) → Sure (hardGap n s at)
 unfolding hardGap
-hard-gap-sure s at = sure-must at _
+hard-gap-sure n s at = sure-must n at _
 
 hard-string-sure : (s : List ℕ) (at : ℕ) → Sure (hardString s at)
 unfolding hardString
-hard-string-sure s at = sure-must at _
+hard-string-sure s at = sure-must requiredNumber at _
 
 module _ (front t : List ℕ) (b : ℕ) (B : isStart b ≡ true) where
   abbrev X : List ℕ
@@ -93,7 +92,7 @@ module _ (front t : List ℕ) (b : ℕ) (B : isStart b ≡ true) where
 
   pub hard-string-agree : (at : ℕ) → at < M → Agrees M M false (hardString S at) (hardString X at)
   unfolding hardString
-  hard-string-agree at h = must-agree at (quoted-span front t b B 34 counted-34 refl at (omega arith))
+  hard-string-agree at h = must-agree requiredNumber at (quoted-span front t b B 34 counted-34 refl at (omega arith))
 
   pub option-string-agree : (at : ℕ) → at < M → Agrees M M true (quoted (span 34) S at) (quoted (span 34) X at)
   option-string-agree at h = quoted-span front t b B 34 counted-34 refl at (omega arith)
@@ -102,9 +101,9 @@ module _ (front t : List ℕ) (b : ℕ) (B : isStart b ≡ true) where
   unfolding eventOf
   event-of-agree at h =
       and-loose N (hard-string-agree at h) (hard-string-reach S at (omega (arith, longer front t b B)))
-      (λ a _ h₁. and-agree (hard-gap-alike C (upto a h₁)) (λ g h₂. hard-string-agree g h₂))
-      (λ a p q. and-reach N (a + 1) a (hardGap S a) _ (hard-gap-reach S a q) (λ g u v. reach-from N (g + 1) a (hardString S g) (omega arith) (hard-string-reach S g v)))
-      (λ a. sure-and _ (hard-gap-sure S a) (hard-string-sure S))
+      (λ a _ h₁. and-agree (hard-gap-alike C requiredNumber (upto a h₁)) (λ g h₂. hard-string-agree g h₂))
+      (λ a p q. and-reach N (a + 1) a (hardGap requiredNumber S a) _ (hard-gap-reach S a requiredNumber q) (λ g u v. reach-from N (g + 1) a (hardString S g) (omega arith) (hard-string-reach S g v)))
+      (λ a. sure-and _ (hard-gap-sure requiredNumber S a) (hard-string-sure S))
 
   -- ---- open: its booking, with what follows
 

@@ -5,16 +5,16 @@ use mathlib.Core.Path.{refl}
 use mathlib.Core.List.{List}
 use lib.ListN.{length}
 use Rattle.text.proofs.Alike.{Alike, both-to, then-alike, and-alike, must-alike, maybe-alike, many-alike}
-use Rattle.text.proofs.SharedLines.{Shared, told, blanks-alike, account-alike, byte-alike, currency-alike, comma-alike}
+use Rattle.text.proofs.SharedLines.{Shared, told, blanks-alike, account-alike, byte-alike, currency-alike, comma-alike, hard-gap-alike}
+use Rattle.text.specs.Refusals.{requiredNumber}
 use Rattle.amount.proofs.ExpressionAlike.{expression-alike}
-use Rattle.amount.proofs.AmountLaws.{hard-gap-alike}
 use Rattle.content.specs.Contents.{hardAccount, tolerance, balanceOf, oneCurrency, further, currencies, padOf}
 use Rattle.content.proofs.ContentEnds.{further-reach}
 
 module _ {Q : Type 0} {s z : List ℕ} {K P : ℕ → ℕ → Type 0} (L : Shared Q s z K P) where
   pub hard-account-alike : {i j : ℕ} → K i j → Alike Q K (hardAccount s i) (hardAccount z j)
   unfolding hardAccount
-  hard-account-alike S = and-alike _ _ (must-alike _ _ (told L S) (account-alike L S)) (λ a b T. both-to a b _ _ T (λ q. rw (told L S q, told L T q)))
+  hard-account-alike S = and-alike _ _ (must-alike requiredNumber _ _ (told L S) (account-alike L S)) (λ a b T. both-to a b _ _ T (λ q. rw (told L S q, told L T q)))
 
   tolerance-alike : {i j : ℕ} → K i j → Alike Q K (tolerance s i) (tolerance z j)
   unfolding tolerance
@@ -26,14 +26,14 @@ module _ {Q : Type 0} {s z : List ℕ} {K P : ℕ → ℕ → Type 0} (L : Share
   pub balance-of-alike : {i j : ℕ} → K i j → Alike Q K (balanceOf s i) (balanceOf z j)
   unfolding balanceOf
   balance-of-alike S =
-      and-alike _ _ (hard-account-alike S) (λ a b T. and-alike _ _ (hard-gap-alike L T) (λ c d U.
-      then-alike _ _ (must-alike _ _ (told L U) (expression-alike L U)) (λ e f v w W t. then-alike _ _ (maybe-alike e f W (tolerance-alike W)) (λ g h x y X u.
-      and-alike _ _ (hard-gap-alike L X) (λ k l Y. and-alike _ _ (must-alike _ _ (told L Y) (currency-alike L Y)) (λ m n Z.
+      and-alike _ _ (hard-account-alike S) (λ a b T. and-alike _ _ (hard-gap-alike L requiredNumber T) (λ c d U.
+      then-alike _ _ (must-alike requiredNumber _ _ (told L U) (expression-alike L U)) (λ e f v w W t. then-alike _ _ (maybe-alike e f W (tolerance-alike W)) (λ g h x y X u.
+      and-alike _ _ (hard-gap-alike L requiredNumber X) (λ k l Y. and-alike _ _ (must-alike requiredNumber _ _ (told L Y) (currency-alike L Y)) (λ m n Z.
       both-to m n _ _ Z (λ q. rw (told L U q, told L W q, told L Y q, told L Z q, t q, u q))))))))
 
   pub pad-of-alike : {i j : ℕ} → K i j → Alike Q K (padOf s i) (padOf z j)
   unfolding padOf
-  pad-of-alike S = and-alike _ _ (hard-account-alike S) (λ a b T. and-alike _ _ (hard-gap-alike L T) (λ c d U. hard-account-alike U))
+  pad-of-alike S = and-alike _ _ (hard-account-alike S) (λ a b T. and-alike _ _ (hard-gap-alike L requiredNumber T) (λ c d U. hard-account-alike U))
 
   one-currency-alike : {i j : ℕ} → K i j → Alike Q K (oneCurrency s i) (oneCurrency z j)
   unfolding oneCurrency

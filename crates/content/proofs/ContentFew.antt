@@ -6,20 +6,17 @@ use lib.ListN.{length}
 use Rattle.text.specs.Bytes.{isBlank}
 use Rattle.text.specs.Run.{blanks}
 use Rattle.text.specs.Answer.{_and_, must, maybe}
-use Rattle.text.specs.Leaves.{account, currency, byte, comma}
+use Rattle.text.specs.Leaves.{account, currency, byte, comma, hardGap}
 use Rattle.text.proofs.Joins.{must-reach}
 use Rattle.text.proofs.Inversions.{must-inv}
-use Rattle.text.proofs.TokenEnds.{run-reach, account-reach, currency-reach, byte-reach, comma-reach}
+use Rattle.text.proofs.TokenEnds.{run-reach, account-reach, currency-reach, byte-reach, comma-reach, hard-gap-reach}
 use Rattle.amount.specs.Details.{Rows, span, quoted}
+use Rattle.text.specs.Refusals.{requiredNumber}
 use Rattle.amount.specs.Expression.{expression}
-use Rattle.amount.specs.Amounts.{hardGap}
 use Rattle.amount.proofs.ExpressionEnds.{expression-reach}
-use Rattle.amount.proofs.AmountLaws.{hard-gap-reach}
 use Rattle.amount.proofs.ValueSizes.{read-small}
-use Rattle.amount.proofs.RowCounts.{unflagged, Of, span-filled, valued-filled, placed-wide, Fits, to-fits, fits-from, must-fits, row-fits, then-rows, then-read, and-fits, maybe-fits, many-fits, must-bare, bare-and, account-bare, currency-bare, byte-bare}
-use Rattle.amount.proofs.AmountFew.{hard-gap-bare}
+use Rattle.amount.proofs.RowCounts.{unflagged, Of, span-filled, valued-filled, placed-wide, Fits, to-fits, fits-from, must-fits, row-fits, then-rows, then-read, and-fits, maybe-fits, many-fits, must-bare, bare-and, account-bare, currency-bare, byte-bare, comma-bare, quoted-fits, hard-gap-bare}
 use Rattle.posting.proofs.PostingEnds.{optional-reach, spaced-reach}
-use Rattle.amount.proofs.RowCounts.{comma-bare, quoted-fits}
 use Rattle.posting.proofs.PostingFew.{spaced-fits}
 use Rattle.content.specs.Contents.{hardAccount, hardString, tolerance, balanceOf, oneCurrency, further, currencies, booking, openOf, padOf, eventOf}
 use Rattle.content.proofs.ContentEnds.{hard-account-reach, hard-string-reach, tolerance-reach, one-currency-reach, further-reach, currencies-reach}
@@ -29,13 +26,13 @@ module _ (s : List ℕ) where
   N = length s
 
   -- a required gap before rows
-  pub hard-gap-and : (k at : ℕ) (f : ℕ → Rows) → at ≤ N → ((g : ℕ) → at + 1 ≤ g → g ≤ N → Fits s k (f g)) → Fits s k (hardGap s at and f)
-  hard-gap-and k at f h u = bare-and N (at + 1) k (hardGap s at) f (hard-gap-reach s at h) (hard-gap-bare s at) u
+  pub hard-gap-and : (n k at : ℕ) (f : ℕ → Rows) → at ≤ N → ((g : ℕ) → at + 1 ≤ g → g ≤ N → Fits s k (f g)) → Fits s k (hardGap n s at and f)
+  hard-gap-and n k at f h u = bare-and N (at + 1) k (hardGap n s at) f (hard-gap-reach s at n h) (hard-gap-bare s at n) u
 
   pub hard-account-fits : (at : ℕ) → at ≤ N → Fits s at (hardAccount s at)
   unfolding hardAccount
   hard-account-fits at h =
-      bare-and N (at + 1) at (must at (account s at)) _ (must-reach N (at + 1) at _ h (account-reach s at)) (must-bare at _ (account-bare s at)) (λ e p q.
+      bare-and N (at + 1) at (must requiredNumber at (account s at)) _ (must-reach N (at + 1) requiredNumber at _ h (account-reach s at)) (must-bare requiredNumber at _ (account-bare s at)) (λ e p q.
       row-fits at e _ span-filled (omega arith))
 
   -- a string whose row is a span
@@ -44,7 +41,7 @@ module _ (s : List ℕ) where
 
   pub hard-string-fits : (at : ℕ) → Fits s at (hardString s at)
   unfolding hardString
-  hard-string-fits at = must-fits at at _ (text-fits 34 at (omega arith))
+  hard-string-fits at = must-fits at requiredNumber at _ (text-fits 34 at (omega arith))
 
   pub tolerance-fits : (at : ℕ) → at ≤ N → Fits s at (tolerance s at)
   unfolding tolerance
@@ -60,15 +57,15 @@ module _ (s : List ℕ) where
   unfolding balanceOf
   balance-of-fits at h =
       and-fits N (at + 1) at (hardAccount s at) _ (hard-account-reach s at h) (hard-account-fits at h) (λ a p₁ q₁.
-      hard-gap-and a a _ q₁ (λ g p₂ q₂.
-      then-read N (g + 1) a (must g (expression s g)) _ (must-reach N (g + 1) g _ q₂ (expression-reach s g)) (λ e v x p₃ q₃.
+      hard-gap-and requiredNumber a a _ q₁ (λ g p₂ q₂.
+      then-read N (g + 1) a (must requiredNumber g (expression s g)) _ (must-reach N (g + 1) requiredNumber g _ q₂ (expression-reach s g)) (λ e v x p₃ q₃.
       then-rows _ N e e a (maybe e (tolerance s e)) _ (optional-reach N e _ q₃ (tolerance-reach s e q₃)) (maybe-fits e _ (tolerance-fits e q₃)) (λ t ts p₄ q₄ r₄.
-      hard-gap-and a t _ q₄ (λ c p₅ q₅.
-      bare-and N (c + 1) a (must c (currency s c)) _ (must-reach N (c + 1) c _ q₅ (currency-reach s c)) (must-bare c _ (currency-bare s c)) (λ d p₆ q₆.
+      hard-gap-and requiredNumber a t _ q₄ (λ c p₅ q₅.
+      bare-and N (c + 1) a (must requiredNumber c (currency s c)) _ (must-reach N (c + 1) requiredNumber c _ q₅ (currency-reach s c)) (must-bare requiredNumber c _ (currency-bare s c)) (λ d p₆ q₆.
       to-fits a d _ (
         (
           omega arith,
-          valued-filled (λ z. omega arith) q₅ q₆ (read-small s g e v (must-inv g (expression s g) e v x)),
+          valued-filled (λ z. omega arith) q₅ q₆ (read-small s g e v (must-inv requiredNumber g (expression s g) e v x)),
           placed-wide unflagged unflagged s e t g d ts (omega arith) (omega arith) (omega arith) r₄ .0,
         ),
         omega arith,
@@ -104,10 +101,10 @@ module _ (s : List ℕ) where
   unfolding padOf
   pad-of-fits at h =
       and-fits N (at + 1) at (hardAccount s at) _ (hard-account-reach s at h) (hard-account-fits at h) (λ a p₁ q₁.
-      hard-gap-and a a _ q₁ (λ g p₂ q₂. fits-from g a _ (omega arith) (hard-account-fits g q₂)))
+      hard-gap-and requiredNumber a a _ q₁ (λ g p₂ q₂. fits-from g a _ (omega arith) (hard-account-fits g q₂)))
 
   pub event-of-fits : (at : ℕ) → at ≤ N → Fits s at (eventOf s at)
   unfolding eventOf
   event-of-fits at h =
       and-fits N (at + 1) at (hardString s at) _ (hard-string-reach s at h) (hard-string-fits at) (λ a p₁ q₁.
-      hard-gap-and a a _ q₁ (λ g p₂ q₂. fits-from g a _ (omega arith) (hard-string-fits g)))
+      hard-gap-and requiredNumber a a _ q₁ (λ g p₂ q₂. fits-from g a _ (omega arith) (hard-string-fits g)))

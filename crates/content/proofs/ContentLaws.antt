@@ -4,7 +4,7 @@ use native.Mathlib.Omega.{arith}
 use mathlib.Core.Path.{_≡_, refl}
 use mathlib.Core.List.{List, [], _∷_}
 use Rattle.text.specs.Answer.{To, Miss, Hard, _then_, must, _and_}
-use Rattle.text.specs.Leaves.{token, named, gap, string, account, currency}
+use Rattle.text.specs.Leaves.{token, named, gap, hardGap, string, account, currency}
 use Rattle.text.specs.Lines.{gapAt}
 use Rattle.text.specs.Strings.{stringAt}
 use Rattle.text.specs.Accounts.{accountAt}
@@ -12,8 +12,9 @@ use Rattle.text.specs.Currencies.{currencyAt}
 use Rattle.text.specs.declared.Read.{Read}
 use Rattle.text.specs.declared.account.AccountRead.{AccountRead}
 use Rattle.amount.specs.Details.{Rows, span, quoted}
+use Rattle.text.specs.Refusals.{requiredNumber, secondPartNumber}
 use Rattle.amount.specs.Expression.{expression}
-use Rattle.amount.specs.Amounts.{hardGap, hardCurrency, hardAmount, priceOf}
+use Rattle.amount.specs.Amounts.{hardCurrency, hardAmount, priceOf}
 use Rattle.amount.specs.steps.Answers.{pairOf}
 use Rattle.amount.specs.declared.amounts.Priced.{Priced}
 use Rattle.amount.specs.declared.detail.Detail.{Detail}
@@ -40,26 +41,27 @@ module _ (base : ℕ) (s : List ℕ) (at : ℕ) (o : Out) (t : List ℕ) where
         → Did base (hardAccount s at) o t u (Ran.To e m)
     unfolding hardAccount account
     account-to e d m u q w k l =
-        must-account-read base o t at x (accountAt s at) p (λ e. To e (span 25 at e ∷ [])) at e u (Ran.To e m) q (did-emit base o t e (span 25 at e) d m u k l w)
+        must-account-read base o t secondPartNumber at x (accountAt s at) p (λ e. To e (span 25 at e ∷ [])) requiredNumber at e u (Ran.To e m) q
+        (did-emit base o t e (span 25 at e) d m u k l w)
 
-    pub account-none : (u : List ℕ) → x ≡ AccountRead.Miss → Did base (hardAccount s at) o t u (Ran.Hard 4 at)
+    pub account-none : (u : List ℕ) → x ≡ AccountRead.Miss → Did base (hardAccount s at) o t u (Ran.Hard requiredNumber at)
     unfolding hardAccount account
-    account-none u q = must-account-miss base o t at x (accountAt s at) p (λ e. To e (span 25 at e ∷ [])) at u q
+    account-none u q = must-account-miss base o t secondPartNumber at x (accountAt s at) p (λ e. To e (span 25 at e ∷ [])) requiredNumber at u q
 
-    pub account-bad : (u : List ℕ) → x ≡ AccountRead.Hard → Did base (hardAccount s at) o t u (Ran.Hard 4 at)
+    pub account-bad : (u : List ℕ) → x ≡ AccountRead.Hard → Did base (hardAccount s at) o t u (Ran.Hard secondPartNumber at)
     unfolding hardAccount account
-    account-bad u q = must-account-hard base o t at x (accountAt s at) p (λ e. To e (span 25 at e ∷ [])) at u q
+    account-bad u q = must-account-hard base o t secondPartNumber at x (accountAt s at) p (λ e. To e (span 25 at e ∷ [])) requiredNumber at u q
 
   module _ (x : Read) (p : x ≡ currencyAt s at) where
     pub currency-to : (e : ℕ) (d : Detail) (m : Out) (u : List ℕ) → x ≡ Read.To e → d ≡ span 31 at e → m ≡ noted o d → u ≡ pourAt (o .rows) (laid base d ∷ []) t
         → Did base (hardCurrency s at) o t u (Ran.To e m)
     unfolding hardCurrency currency
     currency-to e d m u q w k l =
-        must-token-read base o t x (currencyAt s at) p (λ e. To e (span 31 at e ∷ [])) at e u (Ran.To e m) q (did-emit base o t e (span 31 at e) d m u k l w)
+        must-token-read base o t x (currencyAt s at) p (λ e. To e (span 31 at e ∷ [])) requiredNumber at e u (Ran.To e m) q (did-emit base o t e (span 31 at e) d m u k l w)
 
-    pub currency-none : (u : List ℕ) → x ≡ Read.Miss → Did base (hardCurrency s at) o t u (Ran.Hard 4 at)
+    pub currency-none : (u : List ℕ) → x ≡ Read.Miss → Did base (hardCurrency s at) o t u (Ran.Hard requiredNumber at)
     unfolding hardCurrency currency
-    currency-none u q = must-token-miss base o t x (currencyAt s at) p (λ e. To e (span 31 at e ∷ [])) at u q
+    currency-none u q = must-token-miss base o t x (currencyAt s at) p (λ e. To e (span 31 at e ∷ [])) requiredNumber at u q
 
   module _ (x : Read) (p : x ≡ stringAt s at) where
     abbrev textRow : ℕ → Rows
@@ -70,43 +72,43 @@ module _ (base : ℕ) (s : List ℕ) (at : ℕ) (o : Out) (t : List ℕ) where
     unfolding hardString quoted string
     string-to e d m u q w k l =
         must-read base o t u (Ran.To e m) at (token (stringAt s at) and textRow)
-        (token-read base o t x (stringAt s at) p textRow e u (Ran.To e m) q (did-emit base o t e (span 34 (at + 1) (e - 1)) d m u k l w)) e m refl
+        (token-read base o t x (stringAt s at) p textRow e u (Ran.To e m) q (did-emit base o t e (span 34 (at + 1) (e - 1)) d m u k l w)) requiredNumber e m refl
 
-    pub string-none : (u : List ℕ) → x ≡ Read.Miss → Did base (hardString s at) o t u (Ran.Hard 4 at)
+    pub string-none : (u : List ℕ) → x ≡ Read.Miss → Did base (hardString s at) o t u (Ran.Hard requiredNumber at)
     unfolding hardString quoted string
-    string-none u q = must-miss base o t t Ran.Miss at (token (stringAt s at) and textRow) (token-miss base o t x (stringAt s at) p textRow q) u refl
+    string-none u q = must-miss base o t t Ran.Miss at (token (stringAt s at) and textRow) (token-miss base o t x (stringAt s at) p textRow q) requiredNumber u refl
 
 -- each makes one row
 
-makes-account : (at : ℕ) (x : AccountRead) → Makes 0 (must at (named at x))
+makes-account : (k n at : ℕ) (x : AccountRead) → Makes 0 (must k at (named n at x))
 unfolding named must
-makes-account at (AccountRead.To j) = makes j [] refl
-makes-account at AccountRead.Miss = refuses 4 at
-makes-account at AccountRead.Hard = refuses 4 at
+makes-account k n at (AccountRead.To j) = makes j [] refl
+makes-account k n at AccountRead.Miss = refuses k at
+makes-account k n at AccountRead.Hard = refuses n at
 
 module _ (s : List ℕ) (at : ℕ) where
   pub account-one : Makes 1 (hardAccount s at)
   unfolding hardAccount account
-  account-one = makes-and 0 1 _ (makes-account at (accountAt s at)) (λ e. makes e _ refl)
+  account-one = makes-and 0 1 _ (makes-account requiredNumber secondPartNumber at (accountAt s at)) (λ e. makes e _ refl)
 
   pub string-one : Makes 1 (hardString s at)
   unfolding hardString quoted string
-  string-one = makes-one at (token-row (stringAt s at) _ (λ e. row e (span 34 (at + 1) (e - 1)) (omega arith)))
+  string-one = makes-one requiredNumber at (token-row (stringAt s at) _ (λ e. row e (span 34 (at + 1) (e - 1)) (omega arith)))
 
 -- ---- a required gap, and then a reader f: x is what the code read
 
 module _ (base : ℕ) (f : List ℕ → ℕ → Rows) (s : List ℕ) (at : ℕ) (o : Out) (t : List ℕ) (x : Read) (p : x ≡ gapAt s at) where
   pub gap-to : (j : ℕ) (u : List ℕ) (q : Ran) → x ≡ Read.To j → Did base (f s j) o t u q → Did base (pastGap f s at) o t u q
   unfolding pastGap hardGap gap
-  gap-to j u q h d = must-token-read base o t x (gapAt s at) p (f s) at j u q h d
+  gap-to j u q h d = must-token-read base o t x (gapAt s at) p (f s) requiredNumber at j u q h d
 
-  pub gap-none : (u : List ℕ) → x ≡ Read.Miss → Did base (pastGap f s at) o t u (Ran.Hard 4 at)
+  pub gap-none : (u : List ℕ) → x ≡ Read.Miss → Did base (pastGap f s at) o t u (Ran.Hard requiredNumber at)
   unfolding pastGap hardGap gap
-  gap-none u h = must-token-miss base o t x (gapAt s at) p (f s) at u h
+  gap-none u h = must-token-miss base o t x (gapAt s at) p (f s) requiredNumber at u h
 
 pub gap-sure : (f : List ℕ → ℕ → Rows) (s : List ℕ) → ((at : ℕ) → Sure (f s at)) → (at : ℕ) → Sure (pastGap f s at)
 unfolding pastGap hardGap
-gap-sure f s h at = sure-and (f s) (sure-must at (gap s at)) h
+gap-sure f s h at = sure-and (f s) (sure-must requiredNumber at (gap s at)) h
 
 pub ruleset gap-laws = (gap-to, gap-none)
 
@@ -160,11 +162,11 @@ module _ (base : ℕ) (s : List ℕ) (at : ℕ) (o : Out) (t v : List ℕ) (r : 
 price-two : (s : List ℕ) (at : ℕ) → Makes 2 (priceOf s at)
 unfolding priceOf hardCurrency hardGap hardAmount gap currency
 price-two s at =
-    makes-and 1 1 _ (makes-and 0 1 _ (makes-token at (currencyAt s at)) (λ e. makes e _ refl)) (λ e.
-    makes-and 0 1 _ (makes-token e (gapAt s e)) (λ g.
-    makes-then 1 g (expression s g) _ (λ f v.
-    makes-and 0 1 _ (makes-token f (gapAt s f)) (λ c.
-    makes-and 0 1 _ (makes-token c (currencyAt s c)) (λ d. makes d _ refl)))))
+    makes-and 1 1 _ (makes-and 0 1 _ (makes-token requiredNumber at (currencyAt s at)) (λ e. makes e _ refl)) (λ e.
+    makes-and 0 1 _ (makes-token requiredNumber e (gapAt s e)) (λ g.
+    makes-then 1 requiredNumber g (expression s g) _ (λ f v.
+    makes-and 0 1 _ (makes-token requiredNumber f (gapAt s f)) (λ c.
+    makes-and 0 1 _ (makes-token requiredNumber c (currencyAt s c)) (λ d. makes d _ refl)))))
 
 module _ (base : ℕ) (s : List ℕ) (at : ℕ) (o : Out) (t : List ℕ) (x : Priced) (p : x ≡ pairOf (priceOf s at)) where
   module _ (e : ℕ) (u w : Detail) (q : x ≡ Priced.Read e u w) (m : Out) (v : List ℕ) (k : m ≡ noted o u) (l : v ≡ pourAt (o .rows) (laid base u ∷ []) t) where

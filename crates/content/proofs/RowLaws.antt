@@ -43,22 +43,22 @@ unfolding _and_
 makes-and m n g (makes j xs h) f = makes-more m n xs h (f j)
 makes-and m n g (refuses k p) f = refuses k p
 
-pub makes-token : (i : ℕ) (x : Read) → Makes 0 (must i (token x))
+pub makes-token : (k i : ℕ) (x : Read) → Makes 0 (must k i (token x))
 unfolding must token
-makes-token i (Read.To j) = makes j [] refl
-makes-token i Read.Miss = refuses 4 i
+makes-token k i (Read.To j) = makes j [] refl
+makes-token k i Read.Miss = refuses k i
 
-pub makes-then : {A : Type 0} (n i : ℕ) (a : Ans A) (f : ℕ → A → Rows) → ((j : ℕ) (x : A) → Makes n (f j x)) → Makes n (must i a then f)
+pub makes-then : {A : Type 0} (n m i : ℕ) (a : Ans A) (f : ℕ → A → Rows) → ((j : ℕ) (x : A) → Makes n (f j x)) → Makes n (must m i a then f)
 unfolding must _then_
-makes-then n i (To j x) f h = h j x
-makes-then n i Miss f h = refuses 4 i
-makes-then n i (Hard k p) f h = refuses k p
+makes-then n m i (To j x) f h = h j x
+makes-then n m i Miss f h = refuses m i
+makes-then n m i (Hard k p) f h = refuses k p
 
-pub makes-one : (i : ℕ) {a : Rows} → OneRow a → Makes 1 (must i a)
+pub makes-one : (n i : ℕ) {a : Rows} → OneRow a → Makes 1 (must n i a)
 unfolding must
-makes-one i (row j d h) = makes j (d ∷ []) refl
-makes-one i none = refuses 4 i
-makes-one i (hard k p) = refuses k p
+makes-one n i (row j d h) = makes j (d ∷ []) refl
+makes-one n i none = refuses n i
+makes-one n i (hard k p) = refuses k p
 
 -- ---- the code's answer to a reader that makes two rows
 

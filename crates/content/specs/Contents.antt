@@ -5,17 +5,17 @@ use mathlib.Core.List.{List, [], _∷_}
 use lib.ListN.{length}
 use Rattle.text.specs.Run.{blanks}
 use Rattle.text.specs.Answer.{To, _then_, _and_, must, maybe, many}
-use Rattle.text.specs.Leaves.{gap, account, currency, byte, comma}
+use Rattle.text.specs.Leaves.{gap, account, currency, byte, comma, hardGap}
+use Rattle.text.specs.Refusals.{requiredNumber}
 use Rattle.amount.specs.Kinds.{accountKind, amountKind, toleranceKind, currencyKind, bookingKind, stringKind}
 use Rattle.amount.specs.Details.{Rows, span, valued, quoted}
 use Rattle.amount.specs.Expression.{expression}
-use Rattle.amount.specs.Amounts.{hardGap}
 
 unfoldable pub hardAccount : List ℕ → ℕ → Rows
-hardAccount s at = must at (account s at) and λ e. To e (span accountKind at e ∷ [])
+hardAccount s at = must requiredNumber at (account s at) and λ e. To e (span accountKind at e ∷ [])
 
 unfoldable pub hardString : List ℕ → ℕ → Rows
-hardString s at = must at (quoted (span stringKind) s at)
+hardString s at = must requiredNumber at (quoted (span stringKind) s at)
 
 -- blanks `~` blanks expression
 unfoldable pub tolerance : List ℕ → ℕ → Rows
@@ -24,8 +24,9 @@ tolerance s at = byte (code "~") s (blanks s at) and λ i. let b = blanks s i in
 -- Balance: account, gap, expression, optionally a tolerance, gap, currency. The amount names that currency.
 unfoldable pub balanceOf : List ℕ → ℕ → Rows
 balanceOf s at =
-    hardAccount s at and λ a. hardGap s a and λ g. must g (expression s g) then λ e v. maybe e (tolerance s e) then λ t ts.
-    hardGap s t and λ c. must c (currency s c) and λ d. To d (valued amountKind g e c d v ∷ ts)
+    hardAccount s at and λ a. hardGap requiredNumber s a and λ g. must requiredNumber g (expression s g) then λ e v.
+    maybe e (tolerance s e) then λ t ts. hardGap requiredNumber s t and λ c.
+    must requiredNumber c (currency s c) and λ d. To d (valued amountKind g e c d v ∷ ts)
 
 -- currencies joined by commas with blanks around
 unfoldable pub oneCurrency : List ℕ → ℕ → Rows
@@ -46,8 +47,8 @@ openOf s at = hardAccount s at and λ a. maybe a (gap s a and λ g. currencies s
 
 -- Pad: account, gap, account.
 unfoldable pub padOf : List ℕ → ℕ → Rows
-padOf s at = hardAccount s at and λ a. hardGap s a and λ g. hardAccount s g
+padOf s at = hardAccount s at and λ a. hardGap requiredNumber s a and λ g. hardAccount s g
 
 -- Event (H): string, gap, string.
 unfoldable pub eventOf : List ℕ → ℕ → Rows
-eventOf s at = hardString s at and λ a. hardGap s a and λ g. hardString s g
+eventOf s at = hardString s at and λ a. hardGap requiredNumber s a and λ g. hardString s g

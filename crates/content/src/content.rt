@@ -17,6 +17,7 @@ use text::account;
 use text::account::AccountRead;
 use text::currency;
 use text::line;
+use text::refusal;
 use text::run;
 use text::run::Class;
 use text::string;
@@ -37,8 +38,8 @@ pub fn required_account(s: &[u8], at: usize, base: usize, table: &mut [u8], out:
             let o = writer::emit(table, base, out, detail::named(kind::ACCOUNT, at, e, 0, 0));
             Ran::To(e, o)
         }
-        AccountRead::Miss => Ran::Hard(4, at),
-        AccountRead::Hard => Ran::Hard(4, at),
+        AccountRead::Miss => Ran::Hard(refusal::REQUIRED, at),
+        AccountRead::Hard => Ran::Hard(refusal::SECOND_PART, at),
     }
 }
 
@@ -52,7 +53,7 @@ fn required_currency(s: &[u8], at: usize, base: usize, table: &mut [u8], out: Ou
             let o = writer::emit(table, base, out, detail::named(kind::CURRENCY, at, e, 0, 0));
             Ran::To(e, o)
         }
-        Read::Miss => Ran::Hard(4, at),
+        Read::Miss => Ran::Hard(refusal::REQUIRED, at),
     }
 }
 
@@ -71,7 +72,7 @@ pub fn required_string(s: &[u8], at: usize, base: usize, table: &mut [u8], out: 
             );
             Ran::To(e, o)
         }
-        Read::Miss => Ran::Hard(4, at),
+        Read::Miss => Ran::Hard(refusal::REQUIRED, at),
     }
 }
 
@@ -83,7 +84,7 @@ fn gap_account(s: &[u8], at: usize, base: usize, table: &mut [u8], out: Out) -> 
     let g = line::gap(s, at);
     match g {
         Read::To(j) => required_account(s, j, base, table, out),
-        Read::Miss => Ran::Hard(4, at),
+        Read::Miss => Ran::Hard(refusal::REQUIRED, at),
     }
 }
 
@@ -108,7 +109,7 @@ fn gap_hard_string(s: &[u8], at: usize, base: usize, table: &mut [u8], out: Out)
     let g = line::gap(s, at);
     match g {
         Read::To(j) => required_string(s, j, base, table, out),
-        Read::Miss => Ran::Hard(4, at),
+        Read::Miss => Ran::Hard(refusal::REQUIRED, at),
     }
 }
 
@@ -172,7 +173,7 @@ fn tolerance_read(s: &[u8], at: usize, i: usize) -> One
             },
         ),
         Answer::Miss => One::Read(at, detail::none()),
-        Answer::Deep(p) => One::Hard(3, p),
+        Answer::Deep(p) => One::Hard(refusal::DEEP, p),
     }
 }
 
@@ -208,10 +209,10 @@ fn balance_end(
                     let o = writer::emit_with(table, base, out, a, t);
                     Ran::To(d, o)
                 }
-                Read::Miss => Ran::Hard(4, c),
+                Read::Miss => Ran::Hard(refusal::REQUIRED, c),
             }
         }
-        Read::Miss => Ran::Hard(4, at),
+        Read::Miss => Ran::Hard(refusal::REQUIRED, at),
     }
 }
 
@@ -230,8 +231,8 @@ fn balance_amount(s: &[u8], at: usize, base: usize, table: &mut [u8], out: Out) 
                 One::Hard(k, p) => Ran::Hard(k, p),
             }
         }
-        Answer::Miss => Ran::Hard(4, at),
-        Answer::Deep(p) => Ran::Hard(3, p),
+        Answer::Miss => Ran::Hard(refusal::REQUIRED, at),
+        Answer::Deep(p) => Ran::Hard(refusal::DEEP, p),
     }
 }
 
@@ -242,7 +243,7 @@ fn gap_balance(s: &[u8], at: usize, base: usize, table: &mut [u8], out: Out) -> 
     let g = line::gap(s, at);
     match g {
         Read::To(j) => balance_amount(s, j, base, table, out),
-        Read::Miss => Ran::Hard(4, at),
+        Read::Miss => Ran::Hard(refusal::REQUIRED, at),
     }
 }
 

@@ -16,6 +16,7 @@ use Rattle.text.specs.Run.{blanks}
 use Rattle.text.specs.Answer.{Ans, To, Miss, Hard, _then_, _else_}
 use Rattle.text.proofs.Steps.{byte-within}
 use Rattle.text.proofs.TestLaws.{differ}
+use Rattle.text.specs.Refusals.{deepNumber}
 use Rattle.amount.specs.Literal.{literal}
 use Rattle.amount.specs.Expression.{Arithmetic, isPlus, isTimes, closed, group, groups, within}
 use Rattle.amount.specs.steps.Answers.{answerOf}
@@ -103,7 +104,7 @@ module _ (calc : Arithmetic) (s : List ℕ) where
   unfolding resume group within
   push m fs f p q b h = rw (b, h)
 
-  deep-enters : (n : ℕ) (f : Frame) (p : ℕ) → n ≡ 0 → getD s p 0 ≡ 40 → enter calc (group calc n s) s f (group calc n s p) ≡ Hard 3 p
+  deep-enters : (n : ℕ) (f : Frame) (p : ℕ) → n ≡ 0 → getD s p 0 ≡ 40 → enter calc (group calc n s) s f (group calc n s p) ≡ Hard deepNumber p
   unfolding enter group _then_ _else_
   deep-enters n f p z b = rw (z, b)
 

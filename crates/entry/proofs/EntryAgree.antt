@@ -16,14 +16,15 @@ use Rattle.text.proofs.TestLaws.{absurd-bool}
 use Rattle.text.proofs.InLine.{hasLF, no-lf}
 use Rattle.text.proofs.Joins.{Reach, reach-from, must-reach, and-reach}
 use Rattle.text.proofs.Alike.{Same, Upto, upto, both-to, to-same, if-alike}
-use Rattle.text.proofs.SharedLines.{Shared, byte-same, run-alike, gap-alike, line-alike, tag-alike, word-alike, date-alike}
+use Rattle.text.proofs.SharedLines.{Shared, byte-same, run-alike, gap-alike, line-alike, tag-alike, word-alike, date-alike, hard-gap-alike}
 use Rattle.text.specs.Boundaries.{isStart}
 use Rattle.text.proofs.TokenEnds.{gap-reach, line-reach}
 use Rattle.text.proofs.TextCut.{xs, s, cut}
+use Rattle.text.specs.Refusals.{requiredNumber, wordGapNumber}
 use Rattle.amount.specs.declared.detail.Detail.{Detail}
 use Rattle.amount.specs.Details.{Rows, span, quoted}
 use Rattle.amount.specs.Amounts.{hardCurrency, priceOf}
-use Rattle.amount.proofs.AmountLaws.{hard-gap-alike, hard-currency-alike, price-of-alike, quoted-reach}
+use Rattle.amount.proofs.AmountLaws.{hard-currency-alike, price-of-alike, quoted-reach}
 use Rattle.row.proofs.SureLaws.{Sure, sure-to, sure-hard, sure-must, sure-more}
 use Rattle.posting.specs.Metadata.{metadata}
 use Rattle.posting.proofs.Agree.{torn, torn-right, torn-more, Agree, Agrees, misses, refuses, reads, crosses, lost-map, same-agree, then-at, and-at, and-agree, and-strict, and-loose, more-agree, else-agree}
@@ -108,7 +109,7 @@ module _ (front t : List ℕ) (b : ℕ) (B : isStart b ≡ true) where
       → ((g : ℕ) → g < M → Agrees M (suc M) false (content S g and ending S) (content X g and ending X)) → Agrees M (suc M) false (keyword w content S at) (keyword w content X at)
   unfolding keyword
   keyword-at w content f at h c =
-      and-agree (word-alike C (bytes w) f (upto at h)) (λ e h₁. and-agree (hard-gap-alike C (upto e h₁)) (λ g h₂. c g h₂))
+      and-agree (word-alike C (bytes w) f (upto at h)) (λ e h₁. and-agree (hard-gap-alike C wordGapNumber (upto e h₁)) (λ g h₂. c g h₂))
 
   keyword-agree : (w : String) (content : List ℕ → ℕ → Rows) → hasLF (bytes w) ≡ false → ((g : ℕ) → g < M → Same M (content S g) (content X g)) → (at : ℕ) → at < M
       → Agrees M (suc M) false (keyword w content S at) (keyword w content X at)
@@ -132,7 +133,7 @@ module _ (front t : List ℕ) (b : ℕ) (B : isStart b ≡ true) where
   unfolding keyword lostAt
   event-agree at h c =
       and-at (word-alike C (bytes "event") (words-lf .6) (upto at h)) (λ e x p h₁.
-      and-at (hard-gap-alike C (upto e h₁)) (λ g y q h₂.
+      and-at (hard-gap-alike C wordGapNumber (upto e h₁)) (λ g y q h₂.
       event-ending g h₂ (clear-and M _ _ g y (clear-and M _ _ e x c p) q)))
 
   dateless-agree : (d at : ℕ) → at < M → Clear M (lostAt S at) → Agree inForm M (suc M) false (dateless d S at) (dateless d X at)
@@ -155,7 +156,7 @@ module _ (front t : List ℕ) (b : ℕ) (B : isStart b ≡ true) where
   unfolding directive lostEvent
   directive-agree h c =
       then-at (date-alike C (upto 0 h)) (λ e d p h₁.
-      then-at (hard-gap-alike C (upto e h₁)) (λ g x q h₂.
+      then-at (hard-gap-alike C {A = Detail} wordGapNumber (upto e h₁)) (λ g x q h₂.
       dateless-agree d g h₂ (clear-then M _ _ g x (clear-then M _ _ e d c p) q)))
 
   -- ---- rules 14 and 15
@@ -175,9 +176,9 @@ module _ (front t : List ℕ) (b : ℕ) (B : isStart b ≡ true) where
   unfolding include
   include-agree h =
       and-agree (word-alike C (bytes "include") (words-lf .8) (upto 0 h)) (λ a h₁.
-      and-agree (hard-gap-alike C (upto a h₁)) (λ c h₂.
-      and-loose N (hard-string-agree front t b B c h₂) (hard-string-reach S c (omega (arith, longer front t b B))) (λ j _ h₃. line-agree front t b B j (omega arith))
-      (λ j p q. must-reach N j j _ q (line-reach S j q)) (λ j. sure-must j _)))
+      and-agree (hard-gap-alike C wordGapNumber (upto a h₁)) (λ c h₂.
+      and-loose N (hard-string-agree front t b B c h₂) (hard-string-reach S c (omega (arith, longer front t b B))) (λ j _ h₃. line-agree front t b B requiredNumber j (omega arith))
+      (λ j p q. must-reach N j requiredNumber j _ q (line-reach S j q)) (λ j. sure-must requiredNumber j _)))
 
   tagged-agree : (w : String) → hasLF (bytes w) ≡ false → 0 < M → Agrees M (suc M) false (tagged w S 0) (tagged w X 0)
   unfolding tagged

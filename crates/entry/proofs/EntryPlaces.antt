@@ -11,6 +11,7 @@ use Rattle.decimal.specs.declared.Value.{Value}
 use Rattle.decimal.specs.declared.Value.the-variants.{Known, Refused}
 use Rattle.text.specs.Answer.{Ans, To, Miss, Hard}
 use Rattle.text.proofs.Joins.{Reach}
+use Rattle.text.specs.Refusals.{deepNumber}
 use Rattle.amount.specs.declared.detail.Detail.{Detail}
 use Rattle.amount.specs.Kinds.{numberMetaKind}
 use Rattle.amount.proofs.RowCounts.{anyKinds, Second, unset, within, day, flagged, Rising}
@@ -65,5 +66,5 @@ module _ (s : List ℕ) (k p : ℕ) where
           judged-place 1 m (f .details) m _ (subst (Reach (length s) 1) q (form-reach s) .ends .1) (form-placed s m f q .0) e
       on Miss q e = let z : _≡_ {A = ℕ} 0 p = cc in omega arith
       on (Hard i j) q e =
-          let z : _≡_ {A = ℕ} (cond (eqb i 3) j 0) p = cc in
-          omega (arith, start-or (eqb i 3) j (subst (Reach (length s) 1) q (form-reach s) .ends))
+          let z : _≡_ {A = ℕ} (cond (eqb i deepNumber) j 0) p = cc in
+          omega (arith, start-or (eqb i deepNumber) j (subst (Reach (length s) 1) q (form-reach s) .ends))

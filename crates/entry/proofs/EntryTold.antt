@@ -15,16 +15,17 @@ use Rattle.text.specs.Run.{runTo, blanks}
 use Rattle.text.specs.Lines.{gapAt}
 use Rattle.text.specs.declared.Read.{Read}
 use Rattle.text.specs.Answer.{Ans, To, Miss, Hard, _then_, _and_, _else_, must}
-use Rattle.text.specs.Leaves.{token, date, gap, word}
+use Rattle.text.specs.Leaves.{token, date, gap, hardGap, word}
 use Rattle.text.proofs.TestLaws.{absurd-bool, and-left, and-right}
 use Rattle.text.proofs.Joins.{Reach}
-use Rattle.text.proofs.TokenEnds.{date-reach}
+use Rattle.text.proofs.TokenEnds.{date-reach, hard-gap-reach}
 use Rattle.text.proofs.DayLaws.{date-there}
+use Rattle.text.specs.Refusals.{wordGapNumber}
 use Rattle.amount.specs.declared.detail.Detail.{Detail}
 use Rattle.amount.specs.Details.{Rows}
 use Rattle.row.specs.Details.{spanned}
-use Rattle.amount.specs.Amounts.{hardGap, hardCurrency, priceOf}
-use Rattle.amount.proofs.AmountLaws.{hard-gap-reach, hard-currency-reach, price-of-reach}
+use Rattle.amount.specs.Amounts.{hardCurrency, priceOf}
+use Rattle.amount.proofs.AmountLaws.{hard-currency-reach, price-of-reach}
 use Rattle.amount.proofs.RowCounts.{anyKinds, unflagged, Placed, placed-wide, Fits, fits-from}
 use Rattle.amount.proofs.AmountFew.{hard-currency-fits, price-of-fits}
 use Rattle.row.specs.declared.table.Row.{Row}
@@ -132,11 +133,11 @@ module _ (s : List ℕ) where
       key k w content a b r u = keyword-tells k d _ (date-there s 0 10 d v .0 .low) a b (fits-from g 1 _ i (keyword-fits s w content r u g h))
 
   -- a gap ends behind its blanks
-  gap-blanks : (at j : ℕ) (x : List Detail) → hardGap s at ≡ To j x → j ≡ blanks s at
+  gap-blanks : (n at j : ℕ) (x : List Detail) → hardGap n s at ≡ To j x → j ≡ blanks s at
   unfolding hardGap must gap token gapAt
-  gap-blanks at j x e = go (ltb at (blanks s at)) e
+  gap-blanks n at j x e = go (ltb at (blanks s at)) e
     where
-      go : (b : Bool) → must at (token (cond b (Read.To (blanks s at)) Read.Miss)) ≡ To j x → j ≡ blanks s at
+      go : (b : Bool) → must n at (token (cond b (Read.To (blanks s at)) Read.Miss)) ≡ To j x → j ≡ blanks s at
       go true e = let z : _≡_ {A = ℕ} (blanks s at) j = cc in sym z
       go false e = absurd (let z : _≡_ {A = ℕ} 0 1 = cc in omega arith)
 
@@ -144,9 +145,9 @@ module _ (s : List ℕ) where
   unfolding directive
   directive-tells =
       then-tells (length s) 10 (date s 0) _ (date-reach s 0 (omega arith)) (λ e d q p₁ q₁.
-      then-tells (length s) (e + 1) (hardGap s e) _ (hard-gap-reach s e q₁) (λ g x z p₂ q₂.
+      then-tells (length s) (e + 1) (hardGap {A = Detail} wordGapNumber s e) _ (hard-gap-reach s e wordGapNumber q₁) (λ g x z p₂ q₂.
       let ten = date-there s 0 e d q .1 in
-      dateless-tells d g (q ∙ ap (λ (i : ℕ). To i d) ten) (gap-blanks e g x z ∙ ap (blanks s) ten) (omega arith) q₂))
+      dateless-tells d g (q ∙ ap (λ (i : ℕ). To i d) ten) (gap-blanks wordGapNumber e g x z ∙ ap (blanks s) ten) (omega arith) q₂))
 
   blank-tells : Tells s (blank s)
   unfolding blank asEntry

@@ -8,15 +8,16 @@ use lib.Dec.{eqb}
 use lib.ListN.{length}
 use Rattle.text.specs.Answer.{Ans, To, Miss, Hard, _then_, _and_, _else_, must}
 use Rattle.text.specs.Dates.{dateAt}
-use Rattle.text.specs.Leaves.{token, dated, date, gap, lineEnd}
+use Rattle.text.specs.Leaves.{token, dated, date, gap, hardGap, lineEnd}
 use Rattle.text.specs.Lines.{gapAt, lineEndAt}
 use Rattle.text.specs.declared.Read.{Read}
 use Rattle.text.specs.declared.date.Dated.{Dated}
 use Rattle.text.proofs.Joins.{Reach}
 use Rattle.text.proofs.TokenEnds.{gap-reach, line-reach, date-reach}
+use Rattle.text.specs.Refusals.{wordGapNumber}
 use Rattle.amount.specs.declared.detail.Detail.{Detail}
 use Rattle.amount.specs.Details.{Rows}
-use Rattle.amount.specs.Amounts.{hardGap, hardCurrency, priceOf}
+use Rattle.amount.specs.Amounts.{hardCurrency, priceOf}
 use Rattle.amount.proofs.AmountFew.{hard-currency-fits, price-of-fits}
 use Rattle.amount.proofs.AmountLaws.{hard-currency-reach, price-of-reach}
 use Rattle.amount.proofs.RowCounts.{Fits, fits-at}
@@ -193,11 +194,11 @@ module _ (s : List ℕ) (at : ℕ) (g : Read) (v : g ≡ gapAt s at) (j : ℕ) (
 module _ (base : ℕ) (k : ℕ) (s : List ℕ) (at : ℕ) (o : Out) (t u : List ℕ) (g : Read) (v : g ≡ gapAt s at) where
   pub gap-content-on : (j : ℕ) (q : Ran) → g ≡ Read.To j → Did base (contentEnd k s j) o t u q → Did base (gapContent k s at) o t u q
   unfolding gapContent hardGap gap
-  gap-content-on j q h w = must-token-read base o t g (gapAt s at) v (contentEnd k s) at j u q h w
+  gap-content-on j q h w = must-token-read base o t g (gapAt s at) v (contentEnd k s) wordGapNumber at j u q h w
 
-  pub gap-content-hard : g ≡ Read.Miss → Did base (gapContent k s at) o t u (Ran.Hard 4 at)
+  pub gap-content-hard : g ≡ Read.Miss → Did base (gapContent k s at) o t u (Ran.Hard wordGapNumber at)
   unfolding gapContent hardGap gap
-  gap-content-hard h = must-token-miss base o t g (gapAt s at) v (contentEnd k s) at u h
+  gap-content-hard h = must-token-miss base o t g (gapAt s at) v (contentEnd k s) wordGapNumber at u h
 
 pub ruleset gap-content-laws = (gap-within, gap-room, gap-content-on, gap-content-hard)
 
@@ -244,7 +245,7 @@ pub ruleset dateless-laws = (dateless-read, dateless-next, dateless-hard)
 
 module _ (base : ℕ) (s : List ℕ) (o : Out) (t : List ℕ) (x : Dated) (v : x ≡ dateAt s 0) where
   module _ (e y : ℕ) (h : x ≡ Dated.On e y) (g : Read) (w : g ≡ gapAt s e) where
-    after-date : directive s ≡ (must e (token {A = Detail} g) then λ j _. dateless y s j)
+    after-date : directive s ≡ (must wordGapNumber e (token {A = Detail} g) then λ j _. dateless y s j)
     unfolding directive date dated hardGap gap _then_
     after-date = rw (← v, h, w)
 
@@ -252,7 +253,7 @@ module _ (base : ℕ) (s : List ℕ) (o : Out) (t : List ℕ) (x : Dated) (v : x
     unfolding token must _then_
     directive-on j d u f i q k = rw (after-date, i, ← q) k
 
-    pub directive-hard : (u : List ℕ) → g ≡ Read.Miss → DidForm base (directive s) o t u (Formed.Hard 4 e)
+    pub directive-hard : (u : List ℕ) → g ≡ Read.Miss → DidForm base (directive s) o t u (Formed.Hard wordGapNumber e)
     unfolding token must _then_
     directive-hard u i = rw (after-date, i) refl
 

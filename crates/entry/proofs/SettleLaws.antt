@@ -15,6 +15,7 @@ use Rattle.decimal.specs.declared.Value.the-variants.{Known, Refused}
 use Rattle.text.specs.Answer.{To}
 use Rattle.text.proofs.Joins.{Reach}
 use Rattle.text.specs.Permitted.{sizeLimit}
+use Rattle.text.specs.Refusals.{deepNumber}
 use Rattle.amount.specs.declared.detail.Detail.{Detail}
 use Rattle.row.specs.declared.writer.Out.{Out}
 use Rattle.row.specs.Row.{rowOf, pour, placeOf}
@@ -168,13 +169,13 @@ module _ (base : ℕ) (s t : List ℕ) (i : ℕ) (v : List ℕ) (f : Formed) (w 
   entry-miss-left u h = rw (form-missed base (formOf s) noneHeld (take (length t - i) (drop i t)) v f w h .0) tt
 
   module _ (n p : ℕ) (h : f ≡ Formed.Hard n p) where
-    pub entry-three : n ≡ 3 → Entry.Refused 3 p ≡ entryAnswer (entryOf s)
+    pub entry-three : n ≡ deepNumber → Entry.Refused deepNumber p ≡ entryAnswer (entryOf s)
     unfolding entryOf settled entryAnswer
     entry-three e = rw (form-refused base (formOf s) noneHeld (take (length t - i) (drop i t)) v f n p w h, e)
 
-    pub entry-other : (n ≡ 3 → ⊥) → Entry.Refused n 0 ≡ entryAnswer (entryOf s)
+    pub entry-other : (n ≡ deepNumber → ⊥) → Entry.Refused n 0 ≡ entryAnswer (entryOf s)
     unfolding entryOf settled entryAnswer
-    entry-other e = rw (form-refused base (formOf s) noneHeld (take (length t - i) (drop i t)) v f n p w h, ne-eqb n 3 e)
+    entry-other e = rw (form-refused base (formOf s) noneHeld (take (length t - i) (drop i t)) v f n p w h, ne-eqb n deepNumber e)
 
     pub entry-hard-left : (u : List ℕ) → EntryPoured (entryOf s) base s t u
     unfolding entryOf settled

@@ -16,16 +16,16 @@ use Rattle.text.specs.Lines.{gapAt, lineEndAt}
 use Rattle.text.specs.Strings.{stringAt}
 use Rattle.text.specs.Tags.{tagAt}
 use Rattle.text.specs.Answer.{Ans, To, Miss, Hard, more, _and_, _else_, must}
-use Rattle.text.specs.Leaves.{token, gap, lineEnd, string, tag}
+use Rattle.text.specs.Leaves.{token, gap, hardGap, lineEnd, string, tag}
 use Rattle.text.specs.declared.Read.{Read}
 use Rattle.text.proofs.Steps.{getD-past, run-out}
 use Rattle.text.proofs.Joins.{Reach}
 use Rattle.text.proofs.StringSame.{string-ahead, string-ends}
 use Rattle.text.proofs.TokenEnds.{tag-reach}
+use Rattle.text.specs.Refusals.{requiredNumber, wordGapNumber}
 use Rattle.amount.specs.declared.detail.Detail.{Detail}
 use Rattle.amount.specs.declared.detail.One.{One}
 use Rattle.amount.specs.Details.{Rows, span, quoted}
-use Rattle.amount.specs.Amounts.{hardGap}
 use Rattle.amount.specs.steps.Answers.{oneOf}
 use Rattle.row.specs.declared.writer.Out.{Out}
 use Rattle.row.specs.declared.writer.Ran.{Ran}
@@ -156,17 +156,17 @@ pub ruleset option-laws = (option-first, option-miss, option-hard)
 module _ (base : ℕ) (s : List ℕ) (at : ℕ) (o : Out) (t : List ℕ) where
   module _ (v : List ℕ) (r : Ran) (w : Did base (hardString s at) o t v r) where
     abbrev lineLeft : ℕ → Rows
-    lineLeft e = must e (lineEnd s e)
+    lineLeft e = must requiredNumber e (lineEnd s e)
 
     pub include-read : (e f : ℕ) (m : Out) (l : Read) → r ≡ Ran.To e m → l ≡ lineEndAt s e → l ≡ Read.To f → Did base (includeEnd s at) o t v (Ran.To f m)
     unfolding includeEnd lineEnd
     include-read e f m l h x i =
-        and-read base o t v r (hardString s at) lineLeft w e m v (Ran.To f m) h (must-token-end base m v l (lineEndAt s e) x e f i)
+        and-read base o t v r (hardString s at) lineLeft w e m v (Ran.To f m) h (must-token-end base m v l (lineEndAt s e) x requiredNumber e f i)
 
-    pub include-open : (e : ℕ) (m : Out) (l : Read) (u : List ℕ) → r ≡ Ran.To e m → l ≡ lineEndAt s e → l ≡ Read.Miss → Did base (includeEnd s at) o t u (Ran.Hard 4 e)
+    pub include-open : (e : ℕ) (m : Out) (l : Read) (u : List ℕ) → r ≡ Ran.To e m → l ≡ lineEndAt s e → l ≡ Read.Miss → Did base (includeEnd s at) o t u (Ran.Hard requiredNumber e)
     unfolding includeEnd lineEnd
     include-open e m l u h x i =
-        and-read base o t v r (hardString s at) lineLeft w e m u (Ran.Hard 4 e) h (must-token-end-miss base m v l (lineEndAt s e) x e u i)
+        and-read base o t v r (hardString s at) lineLeft w e m u (Ran.Hard requiredNumber e) h (must-token-end-miss base m v l (lineEndAt s e) x requiredNumber e u i)
 
     pub include-miss : r ≡ Ran.Miss → Did base (includeEnd s at) o t v Ran.Miss
     unfolding includeEnd
@@ -179,11 +179,11 @@ module _ (base : ℕ) (s : List ℕ) (at : ℕ) (o : Out) (t : List ℕ) where
   module _ (g : Read) (w : g ≡ gapAt s at) (u : List ℕ) where
     pub include-gap : (j : ℕ) (q : Ran) → g ≡ Read.To j → Did base (includeEnd s j) o t u q → Did base (includeOf s at) o t u q
     unfolding includeOf hardGap gap
-    include-gap j q h k = must-token-read base o t g (gapAt s at) w (includeEnd s) at j u q h k
+    include-gap j q h k = must-token-read base o t g (gapAt s at) w (includeEnd s) wordGapNumber at j u q h k
 
-    pub include-no-gap : g ≡ Read.Miss → Did base (includeOf s at) o t u (Ran.Hard 4 at)
+    pub include-no-gap : g ≡ Read.Miss → Did base (includeOf s at) o t u (Ran.Hard wordGapNumber at)
     unfolding includeOf hardGap gap
-    include-no-gap h = must-token-miss base o t g (gapAt s at) w (includeEnd s) at u h
+    include-no-gap h = must-token-miss base o t g (gapAt s at) w (includeEnd s) wordGapNumber at u h
 
 pub ruleset include-laws = (include-read, include-open, include-miss, include-hard, include-gap, include-no-gap)
 

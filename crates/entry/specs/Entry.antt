@@ -8,6 +8,7 @@ use lib.ListN.{length, take}
 use Rattle.decimal.specs.declared.Value.{Value}
 use Rattle.decimal.specs.declared.Value.the-variants.{Known, Refused}
 use Rattle.text.specs.Answer.{Ans, To, Miss, Hard}
+use Rattle.text.specs.Refusals.{deepNumber}
 use Rattle.amount.specs.declared.detail.Detail.{Detail}
 use Rattle.row.specs.declared.table.Row.{Row}
 use Rattle.row.specs.Row.{rowOf, feeds}
@@ -36,7 +37,7 @@ judged (d ∷ ds) r = elim (d .value) [ Known x ↦ judged ds r | Refused n ↦ 
 unfoldable pub settled : List ℕ → Ans Form → Reads
 settled s (To n f) = judged (f .details) (got n (rowsOf s n f))
 settled s Miss = refuse 5 0
-settled s (Hard k p) = refuse k (cond (eqb k 3) p 0)
+settled s (Hard k p) = refuse k (cond (eqb k deepNumber) p 0)
 
 unfoldable pub entryOf : List ℕ → Reads
 entryOf s = settled s (formOf s)

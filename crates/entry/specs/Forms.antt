@@ -8,11 +8,12 @@ use lib.ListN.{getD}
 use Rattle.text.specs.Bytes.{inLine}
 use Rattle.text.specs.Run.{runTo}
 use Rattle.text.specs.Answer.{Ans, To, Miss, Hard, _then_, _else_}
-use Rattle.text.specs.Leaves.{date}
+use Rattle.text.specs.Leaves.{hardGap, date}
+use Rattle.text.specs.Refusals.{wordGapNumber}
 use Rattle.amount.specs.Kinds.{blankKind, optionKind, includeKind, pushtagKind, poptagKind, transactionKind, priceKind, balanceKind, openKind, closeKind, padKind, commodityKind, eventKind}
 use Rattle.amount.specs.declared.detail.Detail.{Detail}
 use Rattle.amount.specs.Details.{Rows}
-use Rattle.amount.specs.Amounts.{hardGap, hardCurrency, priceOf}
+use Rattle.amount.specs.Amounts.{hardCurrency, priceOf}
 use Rattle.transaction.specs.Transaction.{transaction}
 use Rattle.content.specs.Contents.{hardAccount, balanceOf, openOf, padOf, eventOf}
 use Rattle.entry.specs.Directive.{keyword, option, include, tagged}
@@ -43,7 +44,7 @@ dateless d s g =
 
 -- Directive: date, gap (hard), and that.
 unfoldable pub directive : List ℕ → Ans Form
-directive s = date s 0 then λ e d. hardGap s e then λ g _. dateless d s g
+directive s = date s 0 then λ e d. hardGap {A = Detail} wordGapNumber s e then λ g _. dateless d s g
 
 -- a line up to and with its LF or CRLF (a CR stands only before an LF): end of ledger doesn't end one
 unfoldable pub blank : List ℕ → Ans Form

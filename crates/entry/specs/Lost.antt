@@ -6,11 +6,11 @@ use lib.Dec.{ltb}
 use lib.ListN.{drop}
 use Rattle.text.specs.Bytes.{bytes}
 use Rattle.text.specs.Answer.{To, Miss, Hard, _then_, _and_}
-use Rattle.text.specs.Leaves.{date, word, lineEnd}
+use Rattle.text.specs.Leaves.{hardGap, date, word, lineEnd}
+use Rattle.text.specs.Refusals.{wordGapNumber}
 use Rattle.amount.specs.Kinds.{firstDetail}
 use Rattle.amount.specs.declared.detail.Detail.{Detail}
 use Rattle.amount.specs.Details.{Rows}
-use Rattle.amount.specs.Amounts.{hardGap}
 use Rattle.row.specs.declared.table.Row.{Row}
 use Rattle.row.specs.Strings.{held}
 use Rattle.content.specs.Contents.{eventOf}
@@ -23,11 +23,11 @@ unless (Hard k p) a = Miss
 
 -- rule 4's keyword `event`, its gap and content, and no line end
 unfoldable pub lostAt : List ℕ → ℕ → Rows
-lostAt s g = word (bytes "event") s g and λ e. hardGap s e and λ c. eventOf s c then λ m rs. unless (lineEnd s m) (To m rs)
+lostAt s g = word (bytes "event") s g and λ e. hardGap wordGapNumber s e and λ c. eventOf s c then λ m rs. unless (lineEnd s m) (To m rs)
 
 -- and the date and its gap before it
 unfoldable pub lostEvent : List ℕ → Rows
-lostEvent s = date s 0 then λ e d. hardGap s e then λ g _. lostAt s g
+lostEvent s = date s 0 then λ e d. hardGap {A = Detail} wordGapNumber s e then λ g _. lostAt s g
 
 -- ---- strings that hold a boundary: a line start whose byte is a digit or small letter
 

@@ -7,6 +7,7 @@ use text::Read;
 use text::date;
 use text::date::Dated;
 use text::line;
+use text::refusal;
 use text::word;
 ghost use mathlib.Core.Path.{_≡_};
 ghost use Rattle.row.specs.steps.Writing.{Did, Readable};
@@ -119,7 +120,7 @@ fn gap_content(s: &[u8], at: usize, kind: usize, base: usize, table: &mut [u8], 
     let g = line::gap(s, at);
     match g {
         Read::To(j) => content_end(s, j, kind, base, table, out),
-        Read::Miss => Ran::Hard(4, at),
+        Read::Miss => Ran::Hard(refusal::WORD_GAP, at),
     }
 }
 
@@ -162,7 +163,7 @@ pub fn directive_at(s: &[u8], base: usize, table: &mut [u8], out: Out) -> Formed
             let g = line::gap(s, e);
             match g {
                 Read::To(j) => dateless_at(s, j, date::wide_date(y), base, table, out),
-                Read::Miss => Formed::Hard(4, e),
+                Read::Miss => Formed::Hard(refusal::WORD_GAP, e),
             }
         }
         Dated::Miss => Formed::Miss,

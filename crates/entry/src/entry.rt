@@ -12,6 +12,7 @@ use row::writer::Out;
 use row::writer::Ran;
 use text::Read;
 use text::line;
+use text::refusal;
 use text::run;
 use text::run::Class;
 use text::string;
@@ -99,7 +100,7 @@ fn include_end(s: &[u8], at: usize, base: usize, table: &mut [u8], out: Out) -> 
             let l = line::line_end(s, e);
             match l {
                 Read::To(f) => Ran::To(f, o),
-                Read::Miss => Ran::Hard(4, e),
+                Read::Miss => Ran::Hard(refusal::REQUIRED, e),
             }
         }
         Ran::Miss => Ran::Miss,
@@ -115,7 +116,7 @@ fn include_at(s: &[u8], at: usize, base: usize, table: &mut [u8], out: Out) -> R
     let g = line::gap(s, at);
     match g {
         Read::To(j) => include_end(s, j, base, table, out),
-        Read::Miss => Ran::Hard(4, at),
+        Read::Miss => Ran::Hard(refusal::WORD_GAP, at),
     }
 }
 
@@ -289,8 +290,8 @@ pub fn entry_at(s: &[u8], base: usize, table: &mut [u8]) -> Entry
         Formed::Read(kind, date, end, o) => settled_at(table, base, kind, date, end, o),
         Formed::Miss => Entry::Refused(5, 0),
         Formed::Hard(n, p) => {
-            if n == 3 {
-                Entry::Refused(3, p)
+            if n == refusal::DEEP {
+                Entry::Refused(refusal::DEEP, p)
             } else {
                 Entry::Refused(n, 0)
             }

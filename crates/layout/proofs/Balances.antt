@@ -15,15 +15,15 @@ use Rattle.decimal.specs.declared.Value.the-variants.{Known}
 use Rattle.text.specs.Bytes.{isBlank, bytes, isCapital, between}
 use Rattle.text.specs.Run.{blanks}
 use Rattle.text.specs.Answer.{To, Miss, _then_, _and_, must, maybe}
-use Rattle.text.specs.Leaves.{byte, currency, account}
+use Rattle.text.specs.Leaves.{hardGap, byte, currency, account}
 use Rattle.text.proofs.Ats.{At, at-next, at-one, at-byte, at-more}
 use Rattle.text.proofs.Inversions.{and-inv, must-inv, then-inv, maybe-inv, to-inv, not-miss}
 use Rattle.text.proofs.TestLaws.{differ}
 use Rattle.text.specs.Every.{Every}
 use Rattle.text.proofs.EveryLaws.{every-right}
+use Rattle.text.specs.Refusals.{requiredNumber}
 use Rattle.amount.specs.Details.{valued}
 use Rattle.amount.specs.Expression.{expression}
-use Rattle.amount.specs.Amounts.{hardGap}
 use Rattle.amount.specs.declared.detail.Detail.{Detail}
 use Rattle.amount.proofs.ExpressionEnds.{expression-reach}
 use Rattle.row.specs.Details.{spanned, millionths}
@@ -108,33 +108,33 @@ balance-was : Was balanceOf Balance
 unfolding balanceOf
 balance-was s i j t rs T A h f =
     let a = and-inv (hardAccount s i) _ j rs h in
-    let b = and-inv (hardGap s (a .0)) _ j (a .2) (a .4) in
-    let c = then-inv (must (b .0) (expression s (b .0))) _ j (b .2) (b .4) in
+    let b = and-inv (hardGap requiredNumber s (a .0)) _ j (a .2) (a .4) in
+    let c = then-inv (must requiredNumber (b .0) (expression s (b .0))) _ j (b .2) (b .4) in
     let d = then-inv (maybe (c .0) (tolerance s (c .0))) _ j (b .2) (c .3) in
-    let e = and-inv (hardGap s (d .0)) _ j (b .2) (d .3) in
-    let k = and-inv (must (e .0) (currency s (e .0))) _ j (e .2) (e .4) in
+    let e = and-inv (hardGap requiredNumber s (d .0)) _ j (b .2) (d .3) in
+    let k = and-inv (must requiredNumber (e .0) (currency s (e .0))) _ j (e .2) (e .4) in
     let l = to-inv (k .0) j _ (k .2) (k .4) in
     let g = subst (Every Fine) (a .5) f in
     let H = hard-account-was A (a .3) in
-    let B = hard-gap-was (H .place) (b .3) in
-    let x = must-inv (b .0) (expression s (b .0)) (c .0) (c .1) (c .2) in
+    let B = hard-gap-was requiredNumber (H .place) (b .3) in
+    let x = must-inv requiredNumber (b .0) (expression s (b .0)) (c .0) (c .1) (c .2) in
     let X = reached (expression-reach s (b .0)) x in
     let p = b .5 ∙ ap (λ z. z ++ b .2) (B .0) in
-    let Y = hard-gap-empty s (d .0) (e .0) (e .1) (e .3) in
+    let Y = hard-gap-empty requiredNumber s (d .0) (e .0) (e .1) (e .3) in
     let q = e .5 ∙ ap (λ z. z ++ e .2) Y in
-    let cu = must-inv (e .0) (currency s (e .0)) (k .0) (k .1) (k .3) in
+    let cu = must-inv requiredNumber (e .0) (currency s (e .0)) (k .0) (k .1) (k .3) in
     let w = k .5 ∙ ap (λ z. z ++ k .2) (currency-empty s (e .0) (k .0) (k .1) cu) ∙ l .1 ∙ ap (λ z. valued 26 (b .0) (c .0) (e .0) z (c .1) ∷ d .1) (l .0) in
     built s j (b .0) (c .0) (e .0) (d .0) (a .1) (a .2) (d .1) (c .1) (H .is) x X (d .2) (e .3) (subst (λ z. currency s (e .0) ≡ To z (k .1)) (l .0) cu)
     (p ∙ q ∙ w) rs (a .5) (every-right Fine (a .1) (a .2) g)
   where
     built : (s : List ℕ) (j g e c u : ℕ) (fs bs ts : List Detail) (v : Value) → IsText Account 25 (items s fs) → expression s g ≡ To e v → At s e (drop e s)
-        → maybe e (tolerance s e) ≡ To u ts → {zs : List Detail} → hardGap s u ≡ To c zs → {ws : List Detail} → currency s c ≡ To j ws → bs ≡ valued 26 g e c j v ∷ ts
+        → maybe e (tolerance s e) ≡ To u ts → {zs : List Detail} → hardGap requiredNumber s u ≡ To c zs → {ws : List Detail} → currency s c ≡ To j ws → bs ≡ valued 26 g e c j v ∷ ts
         → (rs : List Detail) → rs ≡ fs ++ bs → Every Fine bs → There s j rs Balance
     built s j g e c u fs bs ts v a x X m hg hc q rs r f =
         let y = subst (Every Fine) q f in
         let z = y .0 in
         let M = maybe-tolerance-was s e u ts (y .1) X m in
-        let G = hard-gap-was (M .1) hg in
+        let G = hard-gap-was requiredNumber (M .1) hg in
         let C = currency-was (G .1) hc in
         record {
           rest = C .0;
@@ -186,12 +186,12 @@ module _ (s : List ℕ) (w : List ℕ) (C : Currency w) (post : List ℕ) (F : A
   x = decimalOf (W .minus) (W .size)
 
   tail-is : (ts : List Item) → expression s g ≡ To e (Known x) → Reads s (maybe e (tolerance s e)) ts (32 ∷ (w ++ post))
-      → Reads s (must g (expression s g) then λ e v. maybe e (tolerance s e) then λ t us. hardGap s t and λ c. must c (currency s c) and λ d. To d (valued 26 g e c d v ∷ us))
+      → Reads s (must requiredNumber g (expression s g) then λ e v. maybe e (tolerance s e) then λ t us. hardGap requiredNumber s t and λ c. must requiredNumber c (currency s c) and λ d. To d (valued 26 g e c d v ∷ us))
       (sumItem 26 v w ∷ ts) post
   unfolding must
   tail-is ts E R =
-      then-reads _ {x = Known x} (rw E) (then-reads _ (R .eq) (skip-reads (hard-gap-is (currency-blank w post C) (R .rest)) (λ c G.
-      skip-reads (must-reads c (currency-is w post C F G)) (λ d D. record {
+      then-reads _ {x = Known x} (rw E) (then-reads _ (R .eq) (skip-reads (hard-gap-is requiredNumber (currency-blank w post C) (R .rest)) (λ c G.
+      skip-reads (must-reads requiredNumber c (currency-is w post C F G)) (λ d D. record {
         to = d;
         rows = valued 26 g e c d (Known x) ∷ R .rows;
         eq = refl;
@@ -225,7 +225,7 @@ module _ (w : List ℕ) (C : Currency w) (v : ℕ) (W : Form v) where
   tail-last ts (within y F) = tolItem y
 
   tail-reads : (ts : List Item) (T : Tolerance ts) (s : List ℕ) (g : ℕ) (post : List ℕ) → After post → At s g (tail-text ts T ++ post)
-      → Reads s (must g (expression s g) then λ e v. maybe e (tolerance s e) then λ t us. hardGap s t and λ c. must c (currency s c) and λ d. To d (valued 26 g e c d v ∷ us))
+      → Reads s (must requiredNumber g (expression s g) then λ e v. maybe e (tolerance s e) then λ t us. hardGap requiredNumber s t and λ c. must requiredNumber c (currency s c) and λ d. To d (valued 26 g e c d v ∷ us))
       (sumItem 26 v w ∷ ts) post
   unfolding tail-text
   tail-reads ts exact s g post F A =
@@ -269,7 +269,7 @@ balance-anew s i j t rs T A h f = there-map (λ ks B.
       starts = λ x. rw (append-assoc w (32 ∷ u) x) (account-blank w (32 ∷ (u ++ x)) (B .good-account));
       reads = λ s i x A.
           and-reads (textItem 25 w ∷ []) ms (hard-account-is w (32 ∷ (u ++ (10 ∷ x))) (B .good-account) (after-space _) (at-more w (32 ∷ u) (10 ∷ x) A)) (λ a D.
-          skip-reads (hard-gap-is (tail-blank (B .currency) (B .good-currency) (B .value) (B .good-value) (B .tol) T (10 ∷ x)) D) (λ g G.
+          skip-reads (hard-gap-is requiredNumber (tail-blank (B .currency) (B .good-currency) (B .value) (B .good-value) (B .tol) T (10 ∷ x)) D) (λ g G.
           tail-reads (B .currency) (B .good-currency) (B .value) (B .good-value) (B .tol) T s g (10 ∷ x) (after-line x) G));
       prints = λ k prev ds e f g.
           print-account k prev (ms ++ ds) w

@@ -12,8 +12,10 @@ use Rattle.text.proofs.Ats.{At, at-more}
 use Rattle.text.proofs.Inversions.{and-inv, must-inv}
 use Rattle.text.specs.Every.{Every}
 use Rattle.text.proofs.EveryLaws.{every-left, every-right}
+use Rattle.text.specs.Leaves.{hardGap}
+use Rattle.text.specs.Refusals.{requiredNumber}
 use Rattle.amount.specs.Details.{Rows}
-use Rattle.amount.specs.Amounts.{hardGap, hardCurrency, hardAmount, priceOf}
+use Rattle.amount.specs.Amounts.{hardCurrency, hardAmount, priceOf}
 use Rattle.amount.specs.declared.detail.Detail.{Detail}
 use Rattle.row.specs.Details.{spanned}
 use Rattle.content.specs.Contents.{hardAccount, hardString, padOf, eventOf}
@@ -113,24 +115,24 @@ Was R G = (s : List ℕ) (i j : ℕ) (t : List ℕ) (rs : List Detail) → Tidy 
 -- one part, a gap, and another
 module _ (P Q : List ℕ → ℕ → Rows) where
   abbrev Pair : List ℕ → ℕ → Rows
-  Pair s at = P s at and λ a. hardGap s a and λ g. Q s g
+  Pair s at = P s at and λ a. hardGap requiredNumber s a and λ g. Q s g
 
   pair-was : (G H : List Item → Type 0)
       → Was P G → Was Q H → (s : List ℕ) (i j : ℕ) (t : List ℕ) (rs : List Detail) → Tidy s → At s i t → Pair s i ≡ To j rs → Every Fine rs
       → There s j rs (λ ks. (ms : List Item) × (ns : List Item) × G ms × H ns × (ks ≡ ms ++ ns))
   pair-was G H p q s i j t rs T A h f =
       let a = and-inv (P s i) _ j rs h in
-      let b = and-inv (hardGap s (a .0)) _ j (a .2) (a .4) in
+      let b = and-inv (hardGap requiredNumber s (a .0)) _ j (a .2) (a .4) in
       let g = subst (Every Fine) (a .5) f in
       let Z = p s i (a .0) t (a .1) T A (a .3) (every-left Fine (a .1) (a .2) g) in
-      let B = hard-gap-was (Z .place) (b .3) in
+      let B = hard-gap-was requiredNumber (Z .place) (b .3) in
       let e = b .5 ∙ ap (λ z. z ++ b .2) (B .0) in
       let U = q s (b .0) j _ (b .2) T (B .1) (b .4) (subst (Every Fine) e (every-right Fine (a .1) (a .2) g)) in
       record { rest = U .rest; place = U .place; is = (items s (a .1), items s (b .2), Z .is, U .is, ap (items s) (a .5 ∙ ap (λ z. a .1 ++ z) e) ∙ items-append s (a .1) (b .2)) }
 
   pair-is : (s : List ℕ) (i : ℕ) (ms ns : List Item) (t u post : List ℕ) → ((i : ℕ) → At s i (t ++ (32 ∷ (u ++ post))) → Reads s (P s i) ms (32 ∷ (u ++ post)))
       → ((i : ℕ) → At s i (u ++ post) → Reads s (Q s i) ns post) → isBlank (getD (u ++ post) 0 0) ≡ false → At s i (t ++ (32 ∷ (u ++ post))) → Reads s (Pair s i) (ms ++ ns) post
-  pair-is s i ms ns t u post p q b A = and-reads ms ns (p i A) (λ a B. skip-reads (hard-gap-is b B) (λ g C. q g C))
+  pair-is s i ms ns t u post p q b A = and-reads ms ns (p i A) (λ a B. skip-reads (hard-gap-is requiredNumber b B) (λ g C. q g C))
 
 -- two parts as one content
 pair-again : {R : List ℕ → ℕ → Rows} (m n : Item) (t u : List ℕ) → Neat t → Neat u → ((x : List ℕ) → isBlank (getD (t ++ x) 0 0) ≡ false)
@@ -152,11 +154,11 @@ string-kind = (refl, refl)
 
 pub hard-string-was : Was hardString (IsText (Phrase) 34)
 unfolding hardString
-hard-string-was s i j t rs T A h f = quoted-was 34 string-kind T A (must-inv i _ j rs h)
+hard-string-was s i j t rs T A h f = quoted-was 34 string-kind T A (must-inv requiredNumber i _ j rs h)
 
 pub hard-string-is : (s : List ℕ) (i : ℕ) (w post : List ℕ) → Phrase w → At s i (quotes w ++ post) → Reads s (hardString s i) (textItem 34 w ∷ []) post
 unfolding hardString
-hard-string-is s i w post C A = must-reads i (quoted-is 34 string-kind w post C A)
+hard-string-is s i w post C A = must-reads requiredNumber i (quoted-is 34 string-kind w post C A)
 
 pub quote-blank : (w t : List ℕ) → isBlank (getD (quotes w ++ t) 0 0) ≡ false
 unfolding quotes isBlank

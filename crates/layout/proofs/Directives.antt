@@ -7,13 +7,13 @@ use mathlib.Core.List.{List, [], _∷_, _++_}
 use lib.ListN.{getD}
 use Rattle.text.specs.Answer.{_else_, To, Miss, _and_}
 use Rattle.text.specs.Bytes.{isBlank, bytes}
-use Rattle.text.specs.Leaves.{word, lineEnd}
+use Rattle.text.specs.Leaves.{hardGap, word, lineEnd}
 use Rattle.text.specs.Words.{startsWith}
 use Rattle.text.proofs.Ats.{At, at-next, at-byte, at-in}
 use Rattle.text.proofs.Inversions.{and-inv, token-inv}
 use Rattle.text.proofs.TokenEnds.{line-reach, word-reach}
 use Rattle.amount.specs.Details.{Rows}
-use Rattle.amount.specs.Amounts.{hardGap, hardCurrency, priceOf}
+use Rattle.amount.specs.Amounts.{hardCurrency, priceOf}
 use Rattle.amount.specs.declared.detail.Detail.{Detail}
 use Rattle.posting.specs.Metadata.{metaStep}
 use Rattle.posting.specs.Postings.{flag, isFlag}
@@ -28,6 +28,7 @@ use Rattle.text.proofs.DayLaws.{Day}
 use Rattle.text.specs.Every.{Every}
 use Rattle.text.proofs.EveryLaws.{every-left, every-right}
 use Rattle.text.proofs.Joins.{else-none}
+use Rattle.text.specs.Refusals.{wordGapNumber}
 use Rattle.layout.proofs.Days.{date-reads}
 use Rattle.layout.proofs.Readings.{items, items-append, Fine, Reads, skip-reads, and-reads, There}
 use Rattle.layout.proofs.Marks.{reached, word-reads, word-misses, line-reads}
@@ -57,8 +58,8 @@ unfolding keyword
 keyword-was w content anew s i j t rs T A h f =
     let a = and-inv (word (bytes w) s i) _ j rs h in
     let B = reached {s = s} (word-reach s i (at-in A) (bytes w)) (a .3) in
-    let b = and-inv (hardGap s (a .0)) _ j (a .2) (a .4) in
-    let G = hard-gap-was B (b .3) in
+    let b = and-inv (hardGap wordGapNumber s (a .0)) _ j (a .2) (a .4) in
+    let G = hard-gap-was wordGapNumber B (b .3) in
     let c = and-inv (content s (b .0)) _ j (b .2) (b .4) in
     let d = and-inv (lineEnd s (c .0)) _ j (c .2) (c .4) in
     let p : rs ≡ c .1 ++ c .2 = a .5 ∙ ap (λ z. z ++ a .2) (word-empty (bytes w) s i (a .0) (a .1) (a .3)) ∙ b .5 ∙ ap (λ z. z ++ b .2) (G .0) ∙ c .5 in
@@ -89,7 +90,7 @@ keyword-is : {s : List ℕ} {i : ℕ} (w : String) (content : List ℕ → ℕ �
 unfolding keyword
 keyword-is {s} {i} w content {ms} {ns} A M post stop B =
     skip-reads (word-reads (bytes w) _ B) (λ e E.
-    skip-reads (hard-gap-is (A .starts (10 ∷ metasText M post)) E) (λ g G.
+    skip-reads (hard-gap-is wordGapNumber (A .starts (10 ∷ metasText M post)) E) (λ g G.
     and-reads ms ns (A .reads s g (metasText M post) G) (λ m D.
     skip-reads (line-reads D) (λ l L. metadata-is M post stop L))))
 
@@ -130,5 +131,5 @@ pub dated-form : (s : List ℕ) (p : ℕ) (D : Day p) (t : List ℕ) {k : ℕ} {
     → Made s (formOf s) k p ms post
 unfolding formOf directive dateText
 dated-form s p D t b A f =
-    let G = hard-gap-is b (at-next (dateText p) (32 ∷ t) A) in
+    let G = hard-gap-is wordGapNumber b (at-next (dateText p) (32 ∷ t) A) in
     made-first _ (made-then _ (date-reads s 0 p D (32 ∷ t) A) (made-then _ (G .eq) (f (G .to) (G .rest))))

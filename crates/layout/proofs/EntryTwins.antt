@@ -11,10 +11,12 @@ use Rattle.text.specs.Leaves.{lineEnd, emptyLine}
 use Rattle.text.proofs.InLine.{hasLF}
 use Rattle.text.specs.Every.{Every}
 use Rattle.text.proofs.Alike.{alike-map, and-alike, both-to, else-alike, must-alike}
-use Rattle.text.proofs.SharedLines.{date-alike, empty-alike, gap-alike, line-alike, tag-alike, word-alike}
+use Rattle.text.proofs.SharedLines.{date-alike, empty-alike, gap-alike, hard-gap-alike, line-alike, tag-alike, word-alike}
+use Rattle.text.specs.Refusals.{requiredNumber, wordGapNumber}
+use Rattle.amount.specs.declared.detail.Detail.{Detail}
 use Rattle.amount.specs.Details.{Rows}
 use Rattle.amount.specs.Amounts.{hardCurrency, priceOf}
-use Rattle.amount.proofs.AmountLaws.{hard-currency-alike, hard-gap-alike, price-of-alike}
+use Rattle.amount.proofs.AmountLaws.{hard-currency-alike, price-of-alike}
 use Rattle.posting.specs.Metadata.{metadata, metaLine, metaStep}
 use Rattle.posting.specs.Postings.{posting, bodyStep, body, postingLine}
 use Rattle.posting.proofs.PostingAlike.{flag-alike}
@@ -37,7 +39,7 @@ rest-misses : (s : List ℕ) (i : ℕ) → transaction s i ≡ Miss → opening 
 unfolding transaction marks metadata body
 rest-misses s i e =
     first-misses (opening s i) _ (λ a m. no-maybe a _ (first-misses (maybe a (texts s a)) _
-    (λ b m. no-miss (mark s) _ b (first-misses (many (mark s) (suc (length s)) b) _ (λ c m. no-must c _ (first-misses (must c (lineEnd s c)) _ (λ d m.
+    (λ b m. no-miss (mark s) _ b (first-misses (many (mark s) (suc (length s)) b) _ (λ c m. no-must requiredNumber c _ (first-misses (must requiredNumber c (lineEnd s c)) _ (λ d m.
     no-miss (metaStep s) _ d (first-misses (many (metaStep s) (suc (length s)) d) _ (λ k m. no-miss (bodyStep s) _ k m) m)) m)) m)) m)) e
 
 -- words of a list, in two texts
@@ -51,7 +53,7 @@ module _ {s z : List ℕ} where
       → ((i j : ℕ) → Spot s z i j → Twin s z (content s i) (content z j)) → Spot s z i j → Follow (keyword w content s i) (keyword w content z j)
   unfolding keyword metadata
   keyword-follow w f content C S =
-      and-follow _ _ (word-alike quiet (bytes w) f S) (λ a b P. and-follow _ _ (hard-gap-alike quiet P)
+      and-follow _ _ (word-alike quiet (bytes w) f S) (λ a b P. and-follow _ _ (hard-gap-alike quiet wordGapNumber P)
       (λ c d Q. and-follow _ _ (C c d Q) (λ e g R. and-follow _ _ (line-alike quiet R) (λ k l U m. absurd (no-miss (metaStep s) _ k m)))))
 
   opening-follow : {i j : ℕ} → Spot s z i j → Follow (opening s i) (opening z j)
@@ -92,7 +94,7 @@ module _ {s z : List ℕ} where
 
   pub directive-follow : Spot s z 0 0 → Follow (directive s) (directive z)
   unfolding directive
-  directive-follow S = then-follow _ _ (date-alike quiet S) (λ a b x y P. then-follow _ _ (hard-gap-alike quiet P) (λ c d k l Q. dateless-follow x y Q))
+  directive-follow S = then-follow _ _ (date-alike quiet S) (λ a b x y P. then-follow _ _ (hard-gap-alike quiet {A = Detail} wordGapNumber P) (λ c d k l Q. dateless-follow x y Q))
 
   option-follow : {i j : ℕ} → Spot s z i j → Follow (option s i) (option z j)
   unfolding option hasLF bytes
@@ -103,7 +105,7 @@ module _ {s z : List ℕ} where
   include-follow : {i j : ℕ} → Spot s z i j → Follow (include s i) (include z j)
   unfolding include hasLF bytes
   include-follow S =
-      and-follow _ _ (word-alike quiet (bytes "include") refl S) (λ a b P. and-follow _ _ (hard-gap-alike quiet P) (λ c d Q. and-follow _ _ (string-must Q) (λ e f R. alike-miss (must-alike e f (λ q. absurd q) (line-alike quiet R)))))
+      and-follow _ _ (word-alike quiet (bytes "include") refl S) (λ a b P. and-follow _ _ (hard-gap-alike quiet wordGapNumber P) (λ c d Q. and-follow _ _ (string-must Q) (λ e f R. alike-miss (must-alike requiredNumber e f (λ q. absurd q) (line-alike quiet R)))))
 
   tagged-follow : {i j : ℕ} (w : String) → hasLF (bytes w) ≡ false → Spot s z i j → Follow (tagged w s i) (tagged w z j)
   unfolding tagged

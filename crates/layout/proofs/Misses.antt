@@ -27,11 +27,11 @@ no-maybe i (To k y) e = to-miss e
 no-maybe i Miss e = to-miss e
 no-maybe i (Hard k p) e = hard-miss e
 
-pub no-must : (i : ℕ) (a : Rows) → must i a ≡ Miss → ⊥
+pub no-must : (n i : ℕ) (a : Rows) → must n i a ≡ Miss → ⊥
 unfolding must
-no-must i (To k y) e = to-miss e
-no-must i Miss e = hard-miss e
-no-must i (Hard k p) e = hard-miss e
+no-must n i (To k y) e = to-miss e
+no-must n i Miss e = hard-miss e
+no-must n i (Hard k p) e = hard-miss e
 
 pub no-miss : (f : ℕ → Rows) (d i : ℕ) → many f d i ≡ Miss → ⊥
 unfolding many

@@ -15,14 +15,15 @@ use Rattle.text.specs.Lines.{gapAt}
 use Rattle.text.specs.Strings.{stringAt}
 use Rattle.text.specs.Currencies.{currencyAt}
 use Rattle.text.specs.Answer.{To, _then_, _and_, more, must, maybe}
-use Rattle.text.specs.Leaves.{named, gap, string, account, currency}
+use Rattle.text.specs.Leaves.{named, gap, hardGap, string, account, currency}
 use Rattle.text.proofs.TokenEnds.{gap-reach}
 use Rattle.text.proofs.Ats.{At, at-next, at-one, at-more, at-place, at-in}
 use Rattle.text.proofs.Inversions.{and-inv, must-inv, then-inv, token-inv, to-inv, named-inv}
 use Rattle.text.specs.Every.{Every}
 use Rattle.amount.specs.Details.{span, valued, Rows, quoted}
+use Rattle.text.specs.Refusals.{requiredNumber, secondPartNumber}
 use Rattle.amount.specs.Expression.{expression}
-use Rattle.amount.specs.Amounts.{amount, hardGap, hardCurrency, hardAmount}
+use Rattle.amount.specs.Amounts.{amount, hardCurrency, hardAmount}
 use Rattle.amount.specs.declared.detail.Detail.{Detail}
 use Rattle.amount.proofs.ExpressionEnds.{expression-reach}
 use Rattle.amount.proofs.ValueSizes.{Smalls, expression-small}
@@ -45,7 +46,7 @@ module _ {s : List ℕ} {i : ℕ} where
   pub account-was : {t : List ℕ} {j : ℕ} {rs : List Detail} → At s i t → account s i ≡ To j rs → (rest : List ℕ) × At s j rest × Account (between s i j) × (rs ≡ [])
   unfolding account
   account-was {t} {j} {rs} A h =
-      let n = named-inv i (accountAt s i) j rs h in
+      let n = named-inv secondPartNumber i (accountAt s i) j rs h in
       let T = account-taken A (n .0) in
       let k = at-split (T .word) (T .rest) j (subst (At s i) (T .cut) A) (T .end) in
       (T .rest, k .1, subst Account (sym (k .0)) (T .good), n .1)
@@ -80,10 +81,10 @@ text-row {s} k i j w post K A B = row-reads (span-item s k i j K ∙ ap (textIte
 -- a token that must stand, and its row
 module _ {s : List ℕ} (i k : ℕ) (K : TextKind k) (x : Rows) where
   must-was : (G : List ℕ → Type 0) → ((j : ℕ) (rs : List Detail) → x ≡ To j rs → (rest : List ℕ) × At s j rest × G (between s i j) × (rs ≡ [])) → (j : ℕ) (rs : List Detail)
-      → (must i x and λ e. To e (span k i e ∷ [])) ≡ To j rs → There s j rs (IsText G k)
+      → (must requiredNumber i x and λ e. To e (span k i e ∷ [])) ≡ To j rs → There s j rs (IsText G k)
   must-was G was j rs h =
-      let a = and-inv (must i x) _ j rs h in
-      let b = was (a .0) (a .1) (must-inv i x (a .0) (a .1) (a .3)) in
+      let a = and-inv (must requiredNumber i x) _ j rs h in
+      let b = was (a .0) (a .1) (must-inv requiredNumber i x (a .0) (a .1) (a .3)) in
       let c = to-inv (a .0) j _ (a .2) (a .4) in
       record {
         rest = b .0;
@@ -91,8 +92,8 @@ module _ {s : List ℕ} (i k : ℕ) (K : TextKind k) (x : Rows) where
         is = one-span s G k i j rs (a .2) K (a .5 ∙ ap (λ z. z ++ a .2) (b .3)) (c .1 ∙ ap (λ z. span k i z ∷ []) (c .0)) (subst (λ z. G (between s i z)) (c .0) (b .2));
       }
 
-  must-is : (w post : List ℕ) → Reads s x [] post → At s i (w ++ post) → Reads s (must i x and λ e. To e (span k i e ∷ [])) (textItem k w ∷ []) post
-  must-is w post R A = skip-reads (must-reads i R) (λ j B. text-row k i j w post K A B)
+  must-is : (w post : List ℕ) → Reads s x [] post → At s i (w ++ post) → Reads s (must requiredNumber i x and λ e. To e (span k i e ∷ [])) (textItem k w ∷ []) post
+  must-is w post R A = skip-reads (must-reads requiredNumber i R) (λ j B. text-row k i j w post K A B)
 
 module _ {s : List ℕ} {i : ℕ} where
   pub hard-account-was : {t : List ℕ} {j : ℕ} {rs : List Detail} → At s i t → hardAccount s i ≡ To j rs → There s j rs (IsText Account 25)
@@ -184,13 +185,13 @@ module _ {s : List ℕ} {i : ℕ} where
   pub gap-was : {t : List ℕ} {j : ℕ} {rs : List Detail} → At s i t → gap s i ≡ To j rs → (rs ≡ []) × At s j (drop j s)
   gap-was {t} {j} {rs} A h = (gap-empty s i j rs h, reached (gap-reach s i (at-in A)) h)
 
-  pub hard-gap-was : {t : List ℕ} {j : ℕ} {rs : List Detail} → At s i t → hardGap s i ≡ To j rs → (rs ≡ []) × At s j (drop j s)
+  pub hard-gap-was : (n : ℕ) {t : List ℕ} {j : ℕ} {rs : List Detail} → At s i t → hardGap n s i ≡ To j rs → (rs ≡ []) × At s j (drop j s)
   unfolding hardGap
-  hard-gap-was {t} {j} {rs} A h = gap-was A (must-inv i (gap s i) j rs h)
+  hard-gap-was n {t} {j} {rs} A h = gap-was A (must-inv n i (gap s i) j rs h)
 
-  pub hard-gap-is : {t : List ℕ} → isBlank (getD t 0 0) ≡ false → At s i (32 ∷ t) → Reads s (hardGap s i) [] t
+  pub hard-gap-is : (n : ℕ) {t : List ℕ} → isBlank (getD t 0 0) ≡ false → At s i (32 ∷ t) → Reads s (hardGap n s i) [] t
   unfolding hardGap
-  hard-gap-is e A = must-reads i (gap-reads e A)
+  hard-gap-is n e A = must-reads n i (gap-reads e A)
 
 -- what may be missing, after a gap
 pub maybe-gap-was : {s t : List ℕ} (G : List Item → Type 0) (i j : ℕ) (R : ℕ → Rows) (rs : List Detail) → G [] → At s i t → maybe i (gap s i and R) ≡ To j rs
@@ -281,10 +282,10 @@ module _ (s : List ℕ) (i k : ℕ) where
   hard-soft : {j : ℕ} {rs : List Detail} → hardAmount k s i ≡ To j rs → amount k s i ≡ To j rs
   unfolding hardAmount amount hardGap _then_ _and_ more
   hard-soft {j} {rs} h =
-      let a = then-inv (must i (expression s i)) _ j rs h in
-      let b = and-inv (must (a .0) (gap s (a .0))) _ j rs (a .3) in
-      let c = and-inv (must (b .0) (currency s (b .0))) _ j (b .2) (b .4) in
-      rw (must-inv i (expression s i) (a .0) (a .1) (a .2), must-inv (a .0) (gap s (a .0)) (b .0) (b .1) (b .3), must-inv (b .0) (currency s (b .0)) (c .0) (c .1) (c .3))
+      let a = then-inv (must requiredNumber i (expression s i)) _ j rs h in
+      let b = and-inv (must requiredNumber (a .0) (gap s (a .0))) _ j rs (a .3) in
+      let c = and-inv (must requiredNumber (b .0) (currency s (b .0))) _ j (b .2) (b .4) in
+      rw (must-inv requiredNumber i (expression s i) (a .0) (a .1) (a .2), must-inv requiredNumber (a .0) (gap s (a .0)) (b .0) (b .1) (b .3), must-inv requiredNumber (b .0) (currency s (b .0)) (c .0) (c .1) (c .3))
       (ap (more (b .1)) (ap (more (c .1)) (c .4)) ∙ ap (To j) (ap (λ z. b .1 ++ z) (sym (c .5)) ∙ sym (b .5)))
 
   soft-hard : {j : ℕ} {rs : List Detail} → amount k s i ≡ To j rs → hardAmount k s i ≡ To j rs
@@ -303,9 +304,9 @@ module _ (s : List ℕ) (i k : ℕ) where
       let R = amount-is k K v c post F C P A in
       record { to = R .to; rows = R .rows; eq = soft-hard (R .eq); rest = R .rest; same = R .same; fine = R .fine }
 
-pub hard-gap-empty : (s : List ℕ) (i j : ℕ) (rs : List Detail) → hardGap s i ≡ To j rs → rs ≡ []
+pub hard-gap-empty : (n : ℕ) (s : List ℕ) (i j : ℕ) (rs : List Detail) → hardGap n s i ≡ To j rs → rs ≡ []
 unfolding hardGap
-hard-gap-empty s i j rs h = gap-empty s i j rs (must-inv i (gap s i) j rs h)
+hard-gap-empty n s i j rs h = gap-empty s i j rs (must-inv n i (gap s i) j rs h)
 
 pub currency-empty : (s : List ℕ) (i j : ℕ) (rs : List Detail) → currency s i ≡ To j rs → rs ≡ []
 unfolding currency

@@ -63,9 +63,9 @@ module _ {s : List ℕ} where
   pub row-reads : {j : ℕ} {t : List ℕ} {d : Detail} {m : Item} → itemD s d ≡ m → Fine d → At s j t → Reads s (To j (d ∷ [])) (m ∷ []) t
   row-reads {j} {t} {d} e f A = record { to = j; rows = d ∷ []; eq = refl; rest = A; same = ap (λ z. z ∷ []) e; fine = (f, tt) }
 
-  pub must-reads : (i : ℕ) {a : Rows} {ms : List Item} {t : List ℕ} → Reads s a ms t → Reads s (must i a) ms t
+  pub must-reads : (n i : ℕ) {a : Rows} {ms : List Item} {t : List ℕ} → Reads s a ms t → Reads s (must n i a) ms t
   unfolding must
-  must-reads i R = record { to = R .to; rows = R .rows; eq = rw (R .eq); rest = R .rest; same = R .same; fine = R .fine }
+  must-reads n i R = record { to = R .to; rows = R .rows; eq = rw (R .eq); rest = R .rest; same = R .same; fine = R .fine }
 
   pub maybe-reads : (i : ℕ) {a : Rows} {ms : List Item} {t : List ℕ} → Reads s a ms t → Reads s (maybe i a) ms t
   unfolding maybe

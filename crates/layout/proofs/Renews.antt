@@ -11,7 +11,7 @@ use lib.ListN.{getD, drop}
 use Rattle.text.specs.Answer.{Miss, To}
 use Rattle.text.specs.Bytes.{isBlank, bytes, isSmall, isDigit}
 use Rattle.text.specs.Run.{blanks}
-use Rattle.text.specs.Leaves.{gap, date}
+use Rattle.text.specs.Leaves.{gap, hardGap, date}
 use Rattle.text.specs.Lines.{gapAt}
 use Rattle.text.specs.Words.{startsWith}
 use Rattle.text.specs.declared.Read.{Read}
@@ -19,7 +19,7 @@ use Rattle.text.proofs.Ats.{At, at-drop, at-in}
 use Rattle.text.proofs.Inversions.{must-inv, then-inv, token-inv, else-inv, not-miss}
 use Rattle.text.proofs.TokenEnds.{date-reach}
 use Rattle.amount.specs.Details.{Rows}
-use Rattle.amount.specs.Amounts.{hardGap, hardCurrency, priceOf}
+use Rattle.amount.specs.Amounts.{hardCurrency, priceOf}
 use Rattle.amount.specs.declared.detail.Detail.{Detail}
 use Rattle.content.specs.Contents.{hardAccount, padOf, eventOf, balanceOf, openOf}
 use Rattle.transaction.specs.Transaction.{transaction}
@@ -31,6 +31,7 @@ use Rattle.layout.proofs.Texts.{Tidy}
 use Rattle.layout.proofs.Values.{run-past}
 use Rattle.text.proofs.DayLaws.{Day, date-there, date-head}
 use Rattle.text.specs.Every.{Every}
+use Rattle.text.specs.Refusals.{wordGapNumber}
 use Rattle.layout.proofs.Tokens.{read-if}
 use Rattle.layout.proofs.Neats.{Neat, neat-join, neat-cons, neat-space, neat-none, free-feed}
 use Rattle.layout.proofs.Readings.{items, Fine}
@@ -154,10 +155,10 @@ unfolding isBlank
 blank-none = refl
 
 -- past a gap stands no blank
-gap-past : (s : List ℕ) (i j : ℕ) (rs : List Detail) → hardGap s i ≡ To j rs → isBlank (getD (drop j s) 0 0) ≡ false
+gap-past : (n : ℕ) (s : List ℕ) (i j : ℕ) (rs : List Detail) → hardGap n s i ≡ To j rs → isBlank (getD (drop j s) 0 0) ≡ false
 unfolding hardGap gap gapAt
-gap-past s i j rs h =
-    let a = token-inv (gapAt s i) j rs (must-inv i _ j rs h) in
+gap-past n s i j rs h =
+    let a = token-inv (gapAt s i) j rs (must-inv n i _ j rs h) in
     let b = read-if (ltb i (blanks s i)) (Read.To (blanks s i)) j (a .0) in
     run-past isBlank blank-none s i j cc
 
@@ -166,12 +167,12 @@ pub directive-renewed : (s : List ℕ) (n : ℕ) (f : Entry) → directive s ≡
 unfolding directive
 directive-renewed s n f h fine T =
     let a = then-inv (date s 0) _ n f h in
-    let b = then-inv (hardGap s (a .0)) _ n f (a .3) in
+    let b = then-inv (hardGap {A = Detail} wordGapNumber s (a .0)) _ n f (a .3) in
     let d = date-there s 0 (a .0) (a .1) (a .2) in
     let E = reached {s = s} (date-reach s 0 (omega arith)) (a .2) in
-    let G = hard-gap-was E (b .2) in
+    let G = hard-gap-was wordGapNumber E (b .2) in
     let first = date-head s (a .0) (a .1) (a .2) in
-    go (a .1) (b .0) (d .0) first (G .1) (gap-past s (a .0) (b .0) (b .1) (b .2)) (else-inv (asEntry 6 (a .1) (transaction s (b .0))) _ n f (sym (dateless-tried (a .1) s (b .0)) ∙ b .3))
+    go (a .1) (b .0) (d .0) first (G .1) (gap-past wordGapNumber s (a .0) (b .0) (b .1) (b .2)) (else-inv (asEntry 6 (a .1) (transaction s (b .0))) _ n f (sym (dateless-tried (a .1) s (b .0)) ∙ b .3))
   where
     go : (p g : ℕ) → Day p → isDigit (getD s 0 0) ≡ true → At s g (drop g s) → isBlank (getD (drop g s) 0 0) ≡ false
         → (asEntry 6 p (transaction s g) ≡ To n f) ⊎ ((asEntry 6 p (transaction s g) ≡ Miss) × (tried p s g keywords Miss ≡ To n f)) → Renewal s n f

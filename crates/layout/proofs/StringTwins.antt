@@ -9,9 +9,9 @@ use Rattle.text.specs.Run.{blanks}
 use Rattle.text.specs.Strings.{stringAt}
 use Rattle.text.specs.Leaves.{token, string}
 use Rattle.text.proofs.Alike.{both-miss, both-to, and-alike, else-alike, maybe-alike, must-alike}
-use Rattle.text.proofs.SharedLines.{byte-alike, byte-same, empty-alike, gap-alike, gap-at, line-alike, told}
+use Rattle.text.proofs.SharedLines.{byte-alike, byte-same, empty-alike, gap-alike, hard-gap-alike, gap-at, line-alike, told}
+use Rattle.text.specs.Refusals.{requiredNumber}
 use Rattle.amount.specs.declared.detail.Detail.{Detail}
-use Rattle.amount.proofs.AmountLaws.{hard-gap-alike}
 use Rattle.amount.specs.Details.{quoted}
 use Rattle.posting.specs.Metadata.{value, metaLine, metaStep}
 use Rattle.posting.specs.Postings.{postingLine}
@@ -53,11 +53,11 @@ module _ {s z : List ℕ} where
 
   pub string-must : {i j : ℕ} → Spot s z i j → Twin s z (hardString s i) (hardString z j)
   unfolding hardString
-  string-must S = must-alike _ _ (told quiet S) (quoted-twin _ _ S)
+  string-must S = must-alike requiredNumber _ _ (told quiet S) (quoted-twin _ _ S)
 
   pub event-of-twin : {i j : ℕ} → Spot s z i j → Twin s z (eventOf s i) (eventOf z j)
   unfolding eventOf
-  event-of-twin S = and-alike _ _ (string-must S) (λ a b P. and-alike _ _ (hard-gap-alike quiet P) (λ c d Q. string-must Q))
+  event-of-twin S = and-alike _ _ (string-must S) (λ a b P. and-alike _ _ (hard-gap-alike quiet requiredNumber P) (λ c d Q. string-must Q))
 
   pub open-of-twin : {i j : ℕ} → Spot s z i j → Twin s z (openOf s i) (openOf z j)
   unfolding openOf booking

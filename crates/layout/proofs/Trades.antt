@@ -17,6 +17,7 @@ use Rattle.layout.specs.Written.{detailText, kindOf, printed, dateText, 
 use Rattle.layout.proofs.Texts.{Tidy}
 use Rattle.text.proofs.DayLaws.{Day}
 use Rattle.text.specs.Every.{Every}
+use Rattle.text.specs.Refusals.{requiredNumber}
 use Rattle.layout.proofs.Neats.{neat-none}
 use Rattle.layout.proofs.Readings.{items, Fine, textItem, Reads, must-reads, skip-reads, and-reads}
 use Rattle.layout.proofs.Marks.{line-reads}
@@ -70,7 +71,7 @@ transaction-is {s} {g} {os} {ts} {ms} {ns} {ps} O T M N P v stop halt A =
     and-reads os (ts ++ (ms ++ (ns ++ ps))) (opening-is O _ A) (λ a B.
     and-reads ts (ms ++ (ns ++ ps)) (texts-is T M x B) (λ b C.
     and-reads ms (ns ++ ps) (marks-is M x C) (λ c D.
-    skip-reads (must-reads c (line-reads D)) (λ d E.
+    skip-reads (must-reads requiredNumber c (line-reads D)) (λ d E.
     and-reads ns ps (metadata-is N (postsText P v) (posts-stop P v stop) E) (λ e F. body-is P v stop halt F)))))
 
 module _ (s : List ℕ) (p n : ℕ) (r : List ℕ) (E : At s n r) (ks : List Item) (R : Trans s n ks) where

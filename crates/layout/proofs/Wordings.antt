@@ -8,7 +8,7 @@ use mathlib.Core.List.{List, [], _∷_, _++_, append-assoc, append-nil}
 use lib.Dec.{eqb, ltb}
 use lib.ListN.{length, getD, drop, length-append}
 use Rattle.text.specs.Answer.{_and_, _else_, To, Miss, _then_}
-use Rattle.text.specs.Leaves.{word, gap, token, date, dated, tag}
+use Rattle.text.specs.Leaves.{word, gap, hardGap, token, date, dated, tag}
 use Rattle.text.specs.Bytes.{bytes, isSmall, isDigit, isCapital, inTag}
 use Rattle.text.specs.Run.{runTo}
 use Rattle.text.specs.Dates.{likeShape, dateShape, dateAt, asShape}
@@ -21,7 +21,7 @@ use Rattle.text.proofs.TestLaws.{absurd-bool}
 use Rattle.text.proofs.TokenEnds.{word-reach}
 use Rattle.text.specs.Every.{Every}
 use Rattle.amount.specs.Details.{span, Rows, quoted}
-use Rattle.amount.specs.Amounts.{hardGap}
+use Rattle.text.specs.Refusals.{requiredNumber, wordGapNumber}
 use Rattle.amount.specs.declared.detail.Detail.{Detail}
 use Rattle.content.specs.Contents.{hardString}
 use Rattle.entry.specs.Forms.{blank, directive, Form as Entry, asEntry, formOf}
@@ -171,8 +171,8 @@ include-is : {s : List ℕ} {i : ℕ} (a v : List ℕ) → Phrase a → At s i (
 unfolding include
 include-is {s} {i} a v C A =
     skip-reads (word-reads (bytes "include") _ A) (λ e E.
-    skip-reads (hard-gap-is (quote-blank a _) E) (λ g G.
-    and-reads (textItem 34 a ∷ []) [] (hard-string-is s g a (10 ∷ v) C G) (λ l L. must-reads l (line-reads L))))
+    skip-reads (hard-gap-is wordGapNumber (quote-blank a _) E) (λ g G.
+    and-reads (textItem 34 a ∷ []) [] (hard-string-is s g a (10 ∷ v) C G) (λ l L. must-reads requiredNumber l (line-reads L))))
 
 option-was : (s : List ℕ) (i j : ℕ) (t : List ℕ) (rs : List Detail) → Tidy s → At s i t → option s i ≡ To j rs
     → (a : List ℕ) × (b : List ℕ) × Phrase a × Phrase b × (items s rs ≡ textItem 34 a ∷ textItem 34 b ∷ [])
@@ -198,12 +198,12 @@ unfolding include
 include-was s i j t rs T A h f =
     let a = and-inv (word (bytes "include") s i) _ j rs h in
     let B = reached {s = s} (word-reach s i (omega (arith, A .fits)) (bytes "include")) (a .3) in
-    let b = and-inv (hardGap s (a .0)) _ j (a .2) (a .4) in
-    let G = hard-gap-was B (b .3) in
+    let b = and-inv (hardGap wordGapNumber s (a .0)) _ j (a .2) (a .4) in
+    let G = hard-gap-was wordGapNumber B (b .3) in
     let c = and-inv (hardString s (b .0)) _ j (b .2) (b .4) in
     let p : rs ≡ c .1 =
     a .5 ∙ ap (λ z. z ++ a .2) (word-empty (bytes "include") s i (a .0) (a .1) (a .3)) ∙ b .5 ∙ ap (λ z. z ++ b .2) (G .0) ∙ c .5
-    ∙ ap (λ z. c .1 ++ z) (line-empty s (c .0) j (c .2) (must-inv (c .0) _ j (c .2) (c .4))) ∙ append-nil (c .1) in
+    ∙ ap (λ z. c .1 ++ z) (line-empty s (c .0) j (c .2) (must-inv requiredNumber (c .0) _ j (c .2) (c .4))) ∙ append-nil (c .1) in
     let C = hard-string-was s (b .0) (c .0) _ (c .1) T (G .1) (c .3) (subst (Every Fine) p f) in
     subst (λ z. IsText Phrase 34 (items s z)) (sym p) (C .is)
 

@@ -78,12 +78,12 @@ module _ {A : Type 0} {w : A → List Detail} {n m : ℕ} {t : Bool} where
   agree-below k h (reads j x l) = reads j x (omega arith)
   agree-below k h (crosses j x l e o) = crosses j x l e o
 
-  pub must-agree : (at : ℕ) {a b : Ans A} → Agree w n m t a b → Agree w n m false (must at a) (must at b)
+  pub must-agree : (i at : ℕ) {a b : Ans A} → Agree w n m t a b → Agree w n m false (must i at a) (must i at b)
   unfolding must
-  must-agree at misses = refuses 4 at
-  must-agree at (refuses k p) = refuses k p
-  must-agree at (reads j x l) = reads j x l
-  must-agree at (crosses j x l e o) = crosses j x l e tt
+  must-agree i at misses = refuses i at
+  must-agree i at (refuses k p) = refuses k p
+  must-agree i at (reads j x l) = reads j x l
+  must-agree i at (crosses j x l e o) = crosses j x l e tt
 
   pub else-agree : {a b c d : Ans A} → Agree w n m t a b → Agree w n m false c d → Agree w n m false (a else c) (b else d)
   unfolding _else_

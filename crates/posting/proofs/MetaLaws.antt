@@ -20,6 +20,7 @@ use Rattle.text.specs.declared.Read.{Read}
 use Rattle.text.proofs.Steps.{getD-past}
 use Rattle.text.proofs.StringSame.{string-ahead, string-ends}
 use Rattle.amount.specs.Details.{named, valued, quoted}
+use Rattle.text.specs.Refusals.{deepNumber}
 use Rattle.amount.specs.Expression.{expression}
 use Rattle.amount.specs.steps.Answers.{answerOf, oneOf}
 use Rattle.amount.specs.declared.detail.Detail.{Detail}
@@ -69,7 +70,7 @@ module _ (a b : ℕ) (s : List ℕ) (at : ℕ) where
     unfolding numberValue _then_ _else_
     number-next o q w = rw (was-miss (expression s at) x p q) w
 
-    pub number-deep : (i : ℕ) → x ≡ Answer.Deep i → One.Hard 3 i ≡ oneOf (numberValue a b s at)
+    pub number-deep : (i : ℕ) → x ≡ Answer.Deep i → One.Hard deepNumber i ≡ oneOf (numberValue a b s at)
     unfolding numberValue _then_ _else_ oneOf
     number-deep i q = rw (deep-three (expression s at) x i (expression-three s at) p q)
 

@@ -12,6 +12,7 @@ use Rattle.text.specs.Accounts.{accountAt}
 use Rattle.text.specs.declared.Read.{Read}
 use Rattle.text.specs.declared.account.AccountRead.{AccountRead}
 use Rattle.text.specs.Permitted.{sizeLimit}
+use Rattle.text.specs.Refusals.{secondPartNumber}
 use Rattle.amount.specs.Details as details
 use Rattle.amount.specs.Amounts.{amount}
 use Rattle.amount.specs.steps.Answers.{oneOf}
@@ -147,7 +148,7 @@ module _ (base flag : ℕ) (s : List ℕ) (at : ℕ) (o : Out) (t : List ℕ) wh
   abbrev held : ℕ → details.Rows
   held e = To e (details.named 33 at e flag 0 ∷ []) and unitsEnd s
 
-  holder-is : holderOf flag s at ≡ (named at (accountAt s at) and held)
+  holder-is : holderOf flag s at ≡ (named secondPartNumber at (accountAt s at) and held)
   unfolding holderOf account
   holder-is = refl
 
@@ -157,14 +158,14 @@ module _ (base flag : ℕ) (s : List ℕ) (at : ℕ) (o : Out) (t : List ℕ) wh
     unfolding _and_
     holder-read e z m w u r q k f g h =
         rw holder-is
-        (account-read base o t at x (accountAt s at) p held e u r q
+        (account-read base o t secondPartNumber at x (accountAt s at) p held e u r q
         (rw (← k) (did-more base o t (z ∷ []) (unitsEnd s e) m w u r (written base o t (z ∷ []) m w (wrote-one base o t z m w f g)) h)))
 
     pub holder-miss : x ≡ AccountRead.Miss → Did base (holderOf flag s at) o t t Ran.Miss
-    holder-miss q = rw holder-is (account-miss base o t at x (accountAt s at) p held q)
+    holder-miss q = rw holder-is (account-miss base o t secondPartNumber at x (accountAt s at) p held q)
 
-    pub holder-hard : (u : List ℕ) → x ≡ AccountRead.Hard → Did base (holderOf flag s at) o t u (Ran.Hard 4 at)
-    holder-hard u q = rw holder-is (account-hard base o t at x (accountAt s at) p held u q)
+    pub holder-hard : (u : List ℕ) → x ≡ AccountRead.Hard → Did base (holderOf flag s at) o t u (Ran.Hard secondPartNumber at)
+    holder-hard u q = rw holder-is (account-hard base o t secondPartNumber at x (accountAt s at) p held u q)
 
 pub ruleset holder-laws = (holder-room, holder-read, holder-miss, holder-hard)
 

@@ -67,10 +67,10 @@ module _ (front t : List ℕ) (b : ℕ) (B : isStart b ≡ true) where
   longer = omega (arith, length-append X (ys front t b B))
 
   -- a required line end, also at the cut, where it refuses on the longer text
-  pub line-agree : (at : ℕ) → at < suc M → Agrees M (suc M) false (must at (lineEnd S at)) (must at (lineEnd X at))
+  pub line-agree : (k at : ℕ) → at < suc M → Agrees M (suc M) false (must k at (lineEnd S at)) (must k at (lineEnd X at))
   unfolding must lineEnd token
-  line-agree = at-seam front t b B (λ at. Agrees M (suc M) false (must at (lineEnd S at)) (must at (lineEnd X at)))
-      (λ at h. must-agree at (same-agree {t = false} (line-alike C (upto at h)))) (rw (line-end-misses X t b (start-bounds b B)) (refuses 4 M))
+  line-agree k = at-seam front t b B (λ at. Agrees M (suc M) false (must k at (lineEnd S at)) (must k at (lineEnd X at)))
+      (λ at h. must-agree k at (same-agree {t = false} (line-alike C (upto at h)))) (rw (line-end-misses X t b (start-bounds b B)) (refuses k M))
 
   -- ---- rule 16
 

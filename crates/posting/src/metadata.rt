@@ -12,6 +12,7 @@ use text::Read;
 use text::bytes;
 use text::currency;
 use text::line;
+use text::refusal;
 use text::run;
 use text::run::Class;
 use text::string;
@@ -64,7 +65,7 @@ fn number_value(s: &[u8], a: usize, b: usize, at: usize) -> One
             },
         ),
         Answer::Miss => unit_value(s, a, b, at),
-        Answer::Deep(p) => One::Hard(3, p),
+        Answer::Deep(p) => One::Hard(refusal::DEEP, p),
     }
 }
 

@@ -12,6 +12,7 @@ use text::account;
 use text::account::AccountRead;
 use text::bytes;
 use text::line;
+use text::refusal;
 ghost use mathlib.Core.Path.{_≡_};
 ghost use Rattle.row.specs.steps.Writing.{Did, Writable};
 ghost use Rattle.posting.specs.Postings.{postingLine};
@@ -105,7 +106,7 @@ fn holder_at(s: &[u8], at: usize, flag: usize, base: usize, table: &mut [u8], ou
             units_end(s, e, base, table, o)
         }
         AccountRead::Miss => Ran::Miss,
-        AccountRead::Hard => Ran::Hard(4, at),
+        AccountRead::Hard => Ran::Hard(refusal::SECOND_PART, at),
     }
 }
 

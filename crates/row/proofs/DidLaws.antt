@@ -133,17 +133,17 @@ module _ (base : ℕ) (o : Out) (t v : List ℕ) (r : Ran) where
     unfolding maybe
     maybe-hard k p u h = rw (was-hard a k p d h) refl
 
-    pub must-read : (e : ℕ) (m : Out) → r ≡ Ran.To e m → Did base (must i a) o t v (Ran.To e m)
+    pub must-read : (n e : ℕ) (m : Out) → r ≡ Ran.To e m → Did base (must n i a) o t v (Ran.To e m)
     unfolding must
-    must-read e m h = let z = was-read a e m d h in rw (z .1) (ap (Ran.To e) (z .2 .0), z .2 .1)
+    must-read n e m h = let z = was-read a e m d h in rw (z .1) (ap (Ran.To e) (z .2 .0), z .2 .1)
 
-    pub must-miss : (u : List ℕ) → r ≡ Ran.Miss → Did base (must i a) o t u (Ran.Hard 4 i)
+    pub must-miss : (n : ℕ) (u : List ℕ) → r ≡ Ran.Miss → Did base (must n i a) o t u (Ran.Hard n i)
     unfolding must
-    must-miss u h = rw (was-miss a d h .0) refl
+    must-miss n u h = rw (was-miss a d h .0) refl
 
-    pub must-hard : (k p : ℕ) (u : List ℕ) → r ≡ Ran.Hard k p → Did base (must i a) o t u (Ran.Hard k p)
+    pub must-hard : (n k p : ℕ) (u : List ℕ) → r ≡ Ran.Hard k p → Did base (must n i a) o t u (Ran.Hard k p)
     unfolding must
-    must-hard k p u h = rw (was-hard a k p d h) refl
+    must-hard n k p u h = rw (was-hard a k p d h) refl
 
 -- ---- the same, and then g
 
@@ -159,15 +159,15 @@ module _ (base : ℕ) (o : Out) (t v : List ℕ) (r : Ran) (i : ℕ) (a : Rows) 
   pub maybe-and-hard : (k p : ℕ) (u : List ℕ) → r ≡ Ran.Hard k p → Did base (maybe i a and g) o t u (Ran.Hard k p)
   maybe-and-hard k p u h = and-hard base o t v (Ran.Hard k p) (maybe i a) g (maybe-hard base o t v r i a d k p v h) k p u refl
 
-  pub must-and-read : (e : ℕ) (m : Out) (u : List ℕ) (q : Ran) → r ≡ Ran.To e m → Did base (g e) m v u q
-      → Did base (must i a and g) o t u q
-  must-and-read e m u q h = and-read base o t v (Ran.To e m) (must i a) g (must-read base o t v r i a d e m h) e m u q refl
+  pub must-and-read : (n e : ℕ) (m : Out) (u : List ℕ) (q : Ran) → r ≡ Ran.To e m → Did base (g e) m v u q
+      → Did base (must n i a and g) o t u q
+  must-and-read n e m u q h = and-read base o t v (Ran.To e m) (must n i a) g (must-read base o t v r i a d n e m h) e m u q refl
 
-  pub must-and-miss : (u : List ℕ) → r ≡ Ran.Miss → Did base (must i a and g) o t u (Ran.Hard 4 i)
-  must-and-miss u h = and-hard base o t v (Ran.Hard 4 i) (must i a) g (must-miss base o t v r i a d v h) 4 i u refl
+  pub must-and-miss : (n : ℕ) (u : List ℕ) → r ≡ Ran.Miss → Did base (must n i a and g) o t u (Ran.Hard n i)
+  must-and-miss n u h = and-hard base o t v (Ran.Hard n i) (must n i a) g (must-miss base o t v r i a d n v h) n i u refl
 
-  pub must-and-hard : (k p : ℕ) (u : List ℕ) → r ≡ Ran.Hard k p → Did base (must i a and g) o t u (Ran.Hard k p)
-  must-and-hard k p u h = and-hard base o t v (Ran.Hard k p) (must i a) g (must-hard base o t v r i a d k p v h) k p u refl
+  pub must-and-hard : (n k p : ℕ) (u : List ℕ) → r ≡ Ran.Hard k p → Did base (must n i a and g) o t u (Ran.Hard k p)
+  must-and-hard n k p u h = and-hard base o t v (Ran.Hard k p) (must n i a) g (must-hard base o t v r i a d n k p v h) k p u refl
 
 pub ruleset joins = (
   sures,

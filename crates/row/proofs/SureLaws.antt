@@ -9,11 +9,11 @@ pub data Sure : Rows → Type 0 where
   sure-to : {e : ℕ} {ds : List Detail} → Sure (To e ds)
   sure-hard : {k p : ℕ} → Sure (Hard k p)
 
-pub sure-must : (i : ℕ) (a : Rows) → Sure (must i a)
+pub sure-must : (n i : ℕ) (a : Rows) → Sure (must n i a)
 unfolding must
-sure-must i (To e ds) = sure-to
-sure-must i Miss = sure-hard
-sure-must i (Hard k p) = sure-hard
+sure-must n i (To e ds) = sure-to
+sure-must n i Miss = sure-hard
+sure-must n i (Hard k p) = sure-hard
 
 pub sure-maybe : (i : ℕ) (a : Rows) → Sure (maybe i a)
 unfolding maybe

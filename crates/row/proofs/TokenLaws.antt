@@ -48,14 +48,14 @@ module _ (base : ℕ) (o : Out) (t : List ℕ) where
       unfolding token
       token-miss h = bare-miss (token y) g (rw (← v, h))
 
-      pub must-token-read : (i e : ℕ) (u : List ℕ) (q : Ran) → x ≡ Read.To e → Did base (g e) o t u q
-          → Did base (must i (token y) and g) o t u q
+      pub must-token-read : (n i e : ℕ) (u : List ℕ) (q : Ran) → x ≡ Read.To e → Did base (g e) o t u q
+          → Did base (must n i (token y) and g) o t u q
       unfolding token must
-      must-token-read i e u q h = bare-read (must i (token y)) g e u q (rw (← v, h))
+      must-token-read n i e u q h = bare-read (must n i (token y)) g e u q (rw (← v, h))
 
-      pub must-token-miss : (i : ℕ) (u : List ℕ) → x ≡ Read.Miss → Did base (must i (token y) and g) o t u (Ran.Hard 4 i)
+      pub must-token-miss : (n i : ℕ) (u : List ℕ) → x ≡ Read.Miss → Did base (must n i (token y) and g) o t u (Ran.Hard n i)
       unfolding token must
-      must-token-miss i u h = bare-hard (must i (token y)) g 4 i u (rw (← v, h))
+      must-token-miss n i u h = bare-hard (must n i (token y)) g n i u (rw (← v, h))
 
       pub maybe-token-read : (i e : ℕ) (u : List ℕ) (q : Ran) → x ≡ Read.To e → Did base (g e) o t u q
           → Did base (maybe i (token y) and g) o t u q
@@ -76,41 +76,41 @@ module _ (base : ℕ) (o : Out) (t : List ℕ) where
     unfolding token
     token-end-miss h = rw (← v, h) (refl, poured-none (o .rows) t)
 
-    pub must-token-end : (i e : ℕ) → x ≡ Read.To e → Did base (must i (token y)) o t t (Ran.To e o)
+    pub must-token-end : (n i e : ℕ) → x ≡ Read.To e → Did base (must n i (token y)) o t t (Ran.To e o)
     unfolding token must
-    must-token-end i e h = rw (← v, h) (did-none base o t e)
+    must-token-end n i e h = rw (← v, h) (did-none base o t e)
 
-    pub must-token-end-miss : (i : ℕ) (u : List ℕ) → x ≡ Read.Miss → Did base (must i (token y)) o t u (Ran.Hard 4 i)
+    pub must-token-end-miss : (n i : ℕ) (u : List ℕ) → x ≡ Read.Miss → Did base (must n i (token y)) o t u (Ran.Hard n i)
     unfolding token must
-    must-token-end-miss i u h = rw (← v, h) refl
+    must-token-end-miss n i u h = rw (← v, h) refl
 
-  -- ---- an account
+  -- ---- an account, whose missing second part is refusal n
 
-  module _ (at : ℕ) (x y : AccountRead) (v : x ≡ y) (g : ℕ → Rows) where
-    pub account-read : (e : ℕ) (u : List ℕ) (q : Ran) → x ≡ AccountRead.To e → Did base (g e) o t u q → Did base (named at y and g) o t u q
+  module _ (n at : ℕ) (x y : AccountRead) (v : x ≡ y) (g : ℕ → Rows) where
+    pub account-read : (e : ℕ) (u : List ℕ) (q : Ran) → x ≡ AccountRead.To e → Did base (g e) o t u q → Did base (named n at y and g) o t u q
     unfolding named
-    account-read e u q h = bare-read (named at y) g e u q (rw (← v, h))
+    account-read e u q h = bare-read (named n at y) g e u q (rw (← v, h))
 
-    pub account-miss : x ≡ AccountRead.Miss → Did base (named at y and g) o t t Ran.Miss
+    pub account-miss : x ≡ AccountRead.Miss → Did base (named n at y and g) o t t Ran.Miss
     unfolding named
-    account-miss h = bare-miss (named at y) g (rw (← v, h))
+    account-miss h = bare-miss (named n at y) g (rw (← v, h))
 
-    pub account-hard : (u : List ℕ) → x ≡ AccountRead.Hard → Did base (named at y and g) o t u (Ran.Hard 4 at)
+    pub account-hard : (u : List ℕ) → x ≡ AccountRead.Hard → Did base (named n at y and g) o t u (Ran.Hard n at)
     unfolding named
-    account-hard u h = bare-hard (named at y) g 4 at u (rw (← v, h))
+    account-hard u h = bare-hard (named n at y) g n at u (rw (← v, h))
 
-    pub must-account-read : (i e : ℕ) (u : List ℕ) (q : Ran) → x ≡ AccountRead.To e → Did base (g e) o t u q
-        → Did base (must i (named at y) and g) o t u q
+    pub must-account-read : (m i e : ℕ) (u : List ℕ) (q : Ran) → x ≡ AccountRead.To e → Did base (g e) o t u q
+        → Did base (must m i (named n at y) and g) o t u q
     unfolding named must
-    must-account-read i e u q h = bare-read (must i (named at y)) g e u q (rw (← v, h))
+    must-account-read m i e u q h = bare-read (must m i (named n at y)) g e u q (rw (← v, h))
 
-    pub must-account-miss : (i : ℕ) (u : List ℕ) → x ≡ AccountRead.Miss → Did base (must i (named at y) and g) o t u (Ran.Hard 4 i)
+    pub must-account-miss : (m i : ℕ) (u : List ℕ) → x ≡ AccountRead.Miss → Did base (must m i (named n at y) and g) o t u (Ran.Hard m i)
     unfolding named must
-    must-account-miss i u h = bare-hard (must i (named at y)) g 4 i u (rw (← v, h))
+    must-account-miss m i u h = bare-hard (must m i (named n at y)) g m i u (rw (← v, h))
 
-    pub must-account-hard : (i : ℕ) (u : List ℕ) → x ≡ AccountRead.Hard → Did base (must i (named at y) and g) o t u (Ran.Hard 4 at)
+    pub must-account-hard : (m i : ℕ) (u : List ℕ) → x ≡ AccountRead.Hard → Did base (must m i (named n at y) and g) o t u (Ran.Hard n at)
     unfolding named must
-    must-account-hard i u h = bare-hard (must i (named at y)) g 4 at u (rw (← v, h))
+    must-account-hard m i u h = bare-hard (must m i (named n at y)) g n at u (rw (← v, h))
 
 pub ruleset tokens = (
   token-read,

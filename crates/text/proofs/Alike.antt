@@ -56,11 +56,11 @@ module _ {A : Type 0} {Q : Type 0} {K : ℕ → ℕ → Type 0} where
   else-alike both-miss T = T
   else-alike (both-hard k p q e) T = both-hard k p q e
 
-  pub must-alike : {a b : Ans A} (i j : ℕ) → (Q → i ≡ j) → Alike Q K a b → Alike Q K (must i a) (must j b)
+  pub must-alike : {a b : Ans A} (n i j : ℕ) → (Q → i ≡ j) → Alike Q K a b → Alike Q K (must n i a) (must n j b)
   unfolding must
-  must-alike i j f (both-to m n x y k e) = both-to m n x y k e
-  must-alike i j f both-miss = both-hard 4 i j f
-  must-alike i j f (both-hard k p q e) = both-hard k p q e
+  must-alike n i j f (both-to l m x y k e) = both-to l m x y k e
+  must-alike n i j f both-miss = both-hard n i j f
+  must-alike n i j f (both-hard k p q e) = both-hard k p q e
 
   pub maybe-alike : {a b : Ans (List A)} (i j : ℕ) → K i j → Alike Q K a b → Alike Q K (maybe i a) (maybe j b)
   unfolding maybe

@@ -32,11 +32,11 @@ module _ {A : Type 0} where
   and-inv Miss g j x e = not-miss e
   and-inv (Hard k p) g j x e = not-hard e
 
-  pub must-inv : (i : ℕ) (a : Ans A) (j : ℕ) (x : A) → must i a ≡ To j x → a ≡ To j x
+  pub must-inv : (n i : ℕ) (a : Ans A) (j : ℕ) (x : A) → must n i a ≡ To j x → a ≡ To j x
   unfolding must
-  must-inv i (To k y) j x e = e
-  must-inv i Miss j x e = not-hard e
-  must-inv i (Hard k p) j x e = e
+  must-inv n i (To k y) j x e = e
+  must-inv n i Miss j x e = not-hard e
+  must-inv n i (Hard k p) j x e = e
 
   pub else-inv : (a b : Ans A) (j : ℕ) (x : A) → (a else b) ≡ To j x → (a ≡ To j x) ⊎ ((a ≡ Miss) × (b ≡ To j x))
   unfolding _else_
@@ -55,11 +55,11 @@ module _ {A : Type 0} where
   token-inv (Read.To k) j x e = (cc, cc)
   token-inv Read.Miss j x e = not-miss e
 
-  pub named-inv : (at : ℕ) (r : AccountRead) (j : ℕ) (x : List A) → named at r ≡ To j x → (r ≡ AccountRead.To j) × (x ≡ [])
+  pub named-inv : (n at : ℕ) (r : AccountRead) (j : ℕ) (x : List A) → named n at r ≡ To j x → (r ≡ AccountRead.To j) × (x ≡ [])
   unfolding named
-  named-inv at (AccountRead.To k) j x e = (cc, cc)
-  named-inv at AccountRead.Miss j x e = not-miss e
-  named-inv at AccountRead.Hard j x e = not-hard e
+  named-inv n at (AccountRead.To k) j x e = (cc, cc)
+  named-inv n at AccountRead.Miss j x e = not-miss e
+  named-inv n at AccountRead.Hard j x e = not-hard e
 
 pub then-inv : {A B : Type 0} (a : Ans A) (g : ℕ → A → Ans B) (j : ℕ) (x : B) → (a then g) ≡ To j x → (i : ℕ) × (y : A) × (a ≡ To i y) × (g i y ≡ To j x)
 unfolding _then_

@@ -44,11 +44,11 @@ module _ {A : Type 0} (n : ℕ) where
   reach-from i j Miss h r = miss-reach n j
   reach-from i j (Hard k p) h r = hard-reach n j k p (r .ends)
 
-  pub must-reach : (i at : ℕ) (a : Ans A) → at ≤ n → Reach n i a → Reach n i (must at a)
+  pub must-reach : (i m at : ℕ) (a : Ans A) → at ≤ n → Reach n i a → Reach n i (must m at a)
   unfolding must
-  must-reach i at (To k x) h r = r
-  must-reach i at Miss h r = hard-reach n i 4 at h
-  must-reach i at (Hard k p) h r = r
+  must-reach i m at (To k x) h r = r
+  must-reach i m at Miss h r = hard-reach n i m at h
+  must-reach i m at (Hard k p) h r = r
 
   pub else-reach : (i : ℕ) (a b : Ans A) → Reach n i a → Reach n i b → Reach n i (a else b)
   unfolding _else_

@@ -16,8 +16,9 @@ use Rattle.text.specs.Accounts.{partFollows, partsFrom, accountAt}
 use Rattle.text.specs.Currencies.{currencyAt}
 use Rattle.text.specs.Words.{startsWith, wordAt}
 use Rattle.text.specs.Tags.{markedAt}
+use Rattle.text.specs.Refusals.{secondPartNumber}
 use Rattle.text.specs.Answer.{To, Miss}
-use Rattle.text.specs.Leaves.{token, named, dated, gap, comma, lineEnd, emptyLine, account, currency, tag, link, date, word, byte}
+use Rattle.text.specs.Leaves.{token, named, dated, gap, comma, lineEnd, emptyLine, account, currency, tag, link, date, word, byte, hardGap}
 use Rattle.text.specs.declared.Read.{Read}
 use Rattle.text.specs.declared.account.AccountRead.{AccountRead}
 use Rattle.text.specs.declared.date.Dated.{Dated}
@@ -25,7 +26,7 @@ use Rattle.text.proofs.TestLaws.{apart, or-left, or-right, and-left, an
 use Rattle.text.proofs.Steps.{drop-step, head-drop, run-on, run-stops}
 use Rattle.text.proofs.InLine.{hasLF, no-lf}
 use Rattle.text.proofs.Compared.{Compares, word-compares, shape-compares}
-use Rattle.text.proofs.Alike.{Alike, both-to, both-miss, both-hard, alike-map, cond-alike, if-alike}
+use Rattle.text.proofs.Alike.{Alike, both-to, both-miss, both-hard, alike-map, cond-alike, if-alike, must-alike}
 
 -- K: places of s and z where the same of the line is left, its line feed at least; P: places behind the line; Q: whether such places are equal
 pub record Shared (Q : Type 0) (s z : List ℕ) (K P : ℕ → ℕ → Type 0) : Type 0 where
@@ -106,6 +107,10 @@ module _ {Q : Type 0} {s z : List ℕ} {K P : ℕ → ℕ → Type 0} (L : Share
   pub gap-alike : {A : Type 0} {i j : ℕ} → K i j → Alike {A = List A} Q K (gap s i) (gap z j)
   gap-alike S = alike-map (λ i j k. k .0) (gap-at S)
 
+  pub hard-gap-alike : {A : Type 0} (n : ℕ) {i j : ℕ} → K i j → Alike {A = List A} Q K (hardGap n s i) (hardGap n z j)
+  unfolding hardGap
+  hard-gap-alike n {i} {j} S = must-alike n i j (told S) (gap-alike S)
+
   -- a test of a byte m and the byte after it
   next-same : (m : ℕ) (q : ℕ → Bool) → eqb 10 m ≡ false → {i j : ℕ} → K i j
       → (eqb (getD z j 0) m && q (getD z (j + 1) 0)) ≡ (eqb (getD s i 0) m && q (getD s (i + 1) 0))
@@ -172,12 +177,12 @@ module _ {Q : Type 0} {s z : List ℕ} {K P : ℕ → ℕ → Type 0} (L : Share
   pub account-alike : {A : Type 0} {i j : ℕ} → K i j → Alike {A = List A} Q K (account s i) (account z j)
   unfolding account accountAt named partFollows
   account-alike {A} {i} {j} S =
-      rw (byte-same S) (cond-alike (named i) (named j) (startsPart (getD s i 0)) _ _ AccountRead.Miss AccountRead.Miss
+      rw (byte-same S) (cond-alike (named secondPartNumber i) (named secondPartNumber j) (startsPart (getD s i 0)) _ _ AccountRead.Miss AccountRead.Miss
       (λ e.
       let T = run-alike inAccount (no-lf .account) (step startsPart (no-lf .part) S e) in
       rw (next-same 58 startsPart refl T)
-      (cond-alike (named i) (named j) (partFollows s (runTo inAccount s (i + 1))) _ _ AccountRead.Hard AccountRead.Hard
-      (λ _. both-to _ _ [] [] (parts-alike T) (λ _. refl)) (λ _. both-hard 4 i j (told S))))
+      (cond-alike (named secondPartNumber i) (named secondPartNumber j) (partFollows s (runTo inAccount s (i + 1))) _ _ AccountRead.Hard AccountRead.Hard
+      (λ _. both-to _ _ [] [] (parts-alike T) (λ _. refl)) (λ _. both-hard secondPartNumber i j (told S))))
       (λ _. both-miss))
 
   -- ---- the other tokens

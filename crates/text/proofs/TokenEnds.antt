@@ -16,14 +16,15 @@ use Rattle.text.specs.Accounts.{partFollows, partsFrom, accountAt}
 use Rattle.text.specs.Currencies.{currencyAt}
 use Rattle.text.specs.Words.{startsWith, wordAt}
 use Rattle.text.specs.Tags.{markedAt}
+use Rattle.text.specs.Refusals.{secondPartNumber}
 use Rattle.text.specs.Answer.{To, Miss}
-use Rattle.text.specs.Leaves.{token, named, dated, gap, comma, lineEnd, emptyLine, string, account, currency, tag, link, date, word, byte}
+use Rattle.text.specs.Leaves.{token, named, dated, gap, comma, lineEnd, emptyLine, string, account, currency, tag, link, date, word, byte, hardGap}
 use Rattle.text.specs.declared.Read.{Read}
 use Rattle.text.specs.declared.account.AccountRead.{AccountRead}
 use Rattle.text.specs.declared.date.Dated.{Dated}
 use Rattle.text.proofs.TestLaws.{and-right}
 use Rattle.text.proofs.Steps.{byte-within, such-within, run-from, run-within}
-use Rattle.text.proofs.Joins.{Reach, to-reach, miss-reach, hard-reach, cond-reach}
+use Rattle.text.proofs.Joins.{Reach, to-reach, miss-reach, hard-reach, must-reach, cond-reach}
 use Rattle.text.proofs.StringSame.{string-ahead, string-ends}
 use Rattle.text.proofs.Compared.{word-compares, shape-compares, compared-length}
 
@@ -92,6 +93,10 @@ module _ {A : Type 0} (s : List ℕ) (at : ℕ) where
       let l = such-within (λ x. eqb x 44) s b (getD s b 0) refl refl e in
       omega (arith, run-reach isBlank s at h, run-reach isBlank s (b + 1) (omega arith)))
 
+  pub hard-gap-reach : (n : ℕ) → at ≤ length s → Reach (length s) (at + 1) (hardGap {A = A} n s at)
+  unfolding hardGap
+  hard-gap-reach n h = must-reach (length s) (at + 1) n at (gap s at) h (gap-reach h)
+
   pub line-reach : at ≤ length s → Reach (length s) at (lineEnd {A = A} s at)
   unfolding lineEnd
   line-reach h = line-from s at at (omega arith) h h
@@ -116,14 +121,14 @@ module _ {A : Type 0} (s : List ℕ) (at : ℕ) where
   pub account-reach : Reach (length s) (at + 1) (account {A = A} s at)
   unfolding account accountAt named startsPart isCapital isDigit
   account-reach =
-      cond-reach (named at) (length s) (at + 1) (startsPart (getD s at 0)) _ AccountRead.Miss
+      cond-reach (named secondPartNumber at) (length s) (at + 1) (startsPart (getD s at 0)) _ AccountRead.Miss
       (λ e.
       let l = such-within startsPart s at (getD s at 0) refl refl e in
       let j = runTo inAccount s (at + 1) in
       let r = run-reach inAccount s (at + 1) (omega arith) in
       let q = parts-from (drop j s) j in
-      cond-reach (named at) (length s) (at + 1) (partFollows s j) (AccountRead.To (partsFrom (drop j s) j)) AccountRead.Hard
-      (λ _. to-reach (length s) (at + 1) (partsFrom (drop j s) j) [] (omega arith) (omega (arith, length-drop j s))) (λ _. hard-reach (length s) (at + 1) 4 at (omega arith)))
+      cond-reach (named secondPartNumber at) (length s) (at + 1) (partFollows s j) (AccountRead.To (partsFrom (drop j s) j)) AccountRead.Hard
+      (λ _. to-reach (length s) (at + 1) (partsFrom (drop j s) j) [] (omega arith) (omega (arith, length-drop j s))) (λ _. hard-reach (length s) (at + 1) secondPartNumber at (omega arith)))
       (λ _. miss-reach (length s) (at + 1))
 
   pub currency-reach : Reach (length s) (at + 1) (currency {A = A} s at)

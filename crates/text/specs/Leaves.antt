@@ -4,8 +4,9 @@ use mathlib.Core.Bool.{cond}
 use mathlib.Core.List.{List, []}
 use lib.Dec.{eqb}
 use lib.ListN.{getD}
-use Rattle.text.specs.Answer.{Ans, To, Miss, Hard}
+use Rattle.text.specs.Answer.{Ans, To, Miss, Hard, must}
 use Rattle.text.specs.Lines.{gapAt, commaAt, lineEndAt, emptyAt}
+use Rattle.text.specs.Refusals.{secondPartNumber}
 use Rattle.text.specs.Dates.{dateAt}
 use Rattle.text.specs.Strings.{stringAt}
 use Rattle.text.specs.Accounts.{accountAt}
@@ -21,11 +22,11 @@ unfoldable pub token : {A : Type 0} → Read → Ans (List A)
 token (Read.To j) = To j []
 token Read.Miss = Miss
 
--- an account that starts at a place: its hard miss is refusal 4
-unfoldable pub named : {A : Type 0} → ℕ → AccountRead → Ans (List A)
-named at (AccountRead.To j) = To j []
-named at AccountRead.Miss = Miss
-named at AccountRead.Hard = Hard 4 at
+-- an account that starts at a place: where it has no second part it is refusal n
+unfoldable pub named : {A : Type 0} → ℕ → ℕ → AccountRead → Ans (List A)
+named n at (AccountRead.To j) = To j []
+named n at AccountRead.Miss = Miss
+named n at AccountRead.Hard = Hard n at
 
 unfoldable pub dated : Dated → Ans ℕ
 dated (Dated.On j d) = To j d
@@ -48,7 +49,7 @@ module _ {A : Type 0} (s : List ℕ) (at : ℕ) where
   string = token (stringAt s at)
 
   unfoldable pub account : Ans (List A)
-  account = named at (accountAt s at)
+  account = named secondPartNumber at (accountAt s at)
 
   unfoldable pub currency : Ans (List A)
   currency = token (currencyAt s at)
@@ -58,6 +59,10 @@ module _ {A : Type 0} (s : List ℕ) (at : ℕ) where
 
   unfoldable pub link : Ans (List A)
   link = token (linkAt s at)
+
+-- a gap that is required
+unfoldable pub hardGap : {A : Type 0} → ℕ → List ℕ → ℕ → Ans (List A)
+hardGap n s at = must n at (gap s at)
 
 unfoldable pub date : List ℕ → ℕ → Ans ℕ
 date s at = dated (dateAt s at)

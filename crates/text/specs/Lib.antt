@@ -10,6 +10,7 @@ pub mod Accounts
 pub mod Currencies
 pub mod Words
 pub mod Tags
+pub mod Refusals
 pub mod Answer
 pub mod Leaves
 pub mod Opened

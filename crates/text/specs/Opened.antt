@@ -21,6 +21,6 @@ unfolding Bytes.isBlank Bytes.isSpace Bytes.isDigit Bytes.isSmall Bytes.isCapita
     Dates.dateAt Strings.stringAt Strings.strFrom Strings.escFrom Accounts.partFollows Accounts.partsFrom
     Accounts.accountAt Currencies.currencyAt Words.startsWith Words.wordAt Tags.markedAt Answer._then_ Answer.must
     Answer._else_ Answer.more Answer._and_ Answer.maybe Answer.many Leaves.comma Leaves.token Leaves.named
-    Leaves.dated Leaves.gap Leaves.lineEnd Leaves.emptyLine Leaves.string Leaves.account Leaves.currency Leaves.tag
+    Leaves.dated Leaves.gap Leaves.hardGap Leaves.lineEnd Leaves.emptyLine Leaves.string Leaves.account Leaves.currency Leaves.tag
     Leaves.link Leaves.date Leaves.word Leaves.byte
 opened = tt

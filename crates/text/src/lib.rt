@@ -5,6 +5,7 @@ pub mod currency;
 pub mod date;
 pub mod line;
 pub mod permitted;
+pub mod refusal;
 pub mod run;
 pub mod string;
 pub mod tag;

@@ -1,6 +1,7 @@
 -- The claims about totals.
 use mathlib.Core.Path.{_≡_, refl, sym, ap, _∙_}
 use mathlib.Core.List.{List, [], _∷_, map}
+use Rattle.text.specs.Every.{Every}
 use Rattle.row.specs.declared.table.Row.{Row}
 use Rattle.order.specs.Order.{Said, said, by}
 use Rattle.order.specs.Sorted.{sorted}
@@ -10,7 +11,7 @@ use Rattle.order.proofs.GroupLaws.{sorted-alike}
 use Rattle.order.proofs.SaidLaws.{lines-perm}
 use Rattle.walk.specs.Postings.{dated, postings}
 use Rattle.totals.specs.Totals.{totalsOf}
-use Rattle.totals.specs.Claims.{OrderNeverCounts, Each, SumsOfThePostings}
+use Rattle.totals.specs.Claims.{OrderNeverCounts, SumsOfThePostings}
 
 pub order-never-counts : OrderNeverCounts
 unfolding totalsOf
@@ -26,7 +27,7 @@ module _ (f : Row → Said) (ps : List Row) where
   unfolding itemOf
   first-is qs x = refl
 
-  each-item : (xs : List Row) → Each (λ i. i ≡ itemOf f ps (i .first)) (map (itemOf f (sorted (by f) ps)) xs)
+  each-item : (xs : List Row) → Every (λ i. i ≡ itemOf f ps (i .first)) (map (itemOf f (sorted (by f) ps)) xs)
   each-item [] = tt
   each-item (x ∷ xs) = (item-same x ∙ ap (itemOf f ps) (sym (first-is (sorted (by f) ps) x)), each-item xs)
 

@@ -7,6 +7,7 @@ use mir.Syntax.{w64}
 use mir.Val.{Fits}
 use lib.ListN.{length, length-append}
 use Rattle.text.specs.Permitted.{sizeLimit}
+use Rattle.text.proofs.EveryLaws.{every-append}
 use Rattle.row.specs.declared.table.Row.{Row}
 use Rattle.row.specs.steps.Holding.{Held}
 use Rattle.row.specs.Row.{fieldBytes}
@@ -36,10 +37,6 @@ pub record Passed (s : List ℕ) (y m : ℕ) (c : Cursor) (n : ℕ) : Type 0 whe
 pub record Putting (s : List ℕ) (y m : ℕ) (u : List ℕ) (c : Cursor) (n : ℕ) (t : List ℕ) : Type 0 where
   pub passed : Passed s y m c n
   pub table : t ≡ putRecords (passed .found) u
-
-held-append : (xs : List Row) (p : Row) → AllHeld xs → Held p → AllHeld (xs ++ p ∷ [])
-held-append [] p h k = (k, tt)
-held-append (x ∷ xs) p h k = (h .0, held-append xs p (h .1) k)
 
 module _ (s : List ℕ) (y m : ℕ) where
   pub pass-start : Accepted s → Passed s y m (outer 0 0) 0
@@ -80,7 +77,7 @@ module _ (s : List ℕ) (y m : ℕ) where
               found = P .found ++ p ∷ [];
               standing = record { these = f .0; stands = f .3 };
               all = P .all ∙ ap (λ (x : List Row). P .found ++ x) (f .1) ∙ sym (append-assoc (P .found) (p ∷ []) (f .0));
-              held = held-append (P .found) p (P .held) (f .2);
+              held = every-append Held (P .found) (p ∷ []) (P .held) (f .2, tt);
               count = rw length-append (omega (arith, P .count));
               few = omega (arith, P .few, f .5);
               small = P .small;

@@ -3,6 +3,7 @@
 use Prim.Native.Nat.{ℕ}
 use mathlib.Core.Path.{_≡_}
 use mathlib.Core.List.{List, [], _∷_, map, List·Permᴰ}
+use Rattle.text.specs.Every.{Every}
 use Rattle.row.specs.declared.table.Row.{Row}
 use Rattle.order.specs.Order.{Said, said}
 use Rattle.order.specs.Groups.{itemOf, Line, lineOf}
@@ -23,9 +24,5 @@ OrderNeverCounts = (s z : List ℕ) (y m : ℕ) (rs qs : List Row) → List·Per
 
 -- each item has the number and the sum of those postings of the month that are like its first one: all of them count,
 -- and the size of the sum is judged at the end
-abbrev pub Each : {A : Type 0} → (A → Type 0) → List A → Type 0
-Each P [] = Unit {0}
-Each P (x ∷ xs) = P x × Each P xs
-
 abbrev pub SumsOfThePostings : Type 0
-SumsOfThePostings = (s : List ℕ) (y m : ℕ) (rs : List Row) → Each (λ i. i ≡ itemOf (said s) (postings (dated y m) rs) (i .first)) (totalsOf s y m rs)
+SumsOfThePostings = (s : List ℕ) (y m : ℕ) (rs : List Row) → Every (λ i. i ≡ itemOf (said s) (postings (dated y m) rs) (i .first)) (totalsOf s y m rs)

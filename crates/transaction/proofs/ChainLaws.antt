@@ -10,6 +10,7 @@ use Rattle.text.specs.Lines.{lineEndAt}
 use Rattle.text.specs.declared.Read.{Read}
 use Rattle.text.proofs.Joins.{Reach, and-assoc, and-reach, must-reach, reach-from}
 use Rattle.text.proofs.TokenEnds.{line-reach}
+use Rattle.text.specs.Refusals.{requiredNumber}
 use Rattle.amount.specs.Details.{Rows}
 use Rattle.amount.specs.declared.detail.Detail.{Detail}
 use Rattle.amount.proofs.RowCounts.{Kinds, anyKinds, partKinds, FitsFrom, Fits, fits-at, fits-wide, must-fits, and-fits, maybe-fits}
@@ -70,11 +71,11 @@ module _ (s : List ℕ) (at : ℕ) where
 module _ (s : List ℕ) where
   -- what follows the marks
   unfoldable pub ended : ℕ → Rows
-  ended c = must c (lineEnd s c) and metadata s
+  ended c = must requiredNumber c (lineEnd s c) and metadata s
 
   pub sure-ended : (at : ℕ) → Sure (ended at)
   unfolding ended
-  sure-ended at = sure-and (metadata s) (sure-must at (lineEnd s at)) (sure-metadata s)
+  sure-ended at = sure-and (metadata s) (sure-must requiredNumber at (lineEnd s at)) (sure-metadata s)
 
   pub sure-marked : (at : ℕ) → Sure (markedOf s at)
   unfolding markedOf ended
@@ -111,11 +112,11 @@ module _ (s : List ℕ) (at : ℕ) where
 module _ (base : ℕ) (s : List ℕ) (at : ℕ) (o : Out) (t : List ℕ) (x : Read) (p : x ≡ lineEndAt s at) where
   pub ended-on : (f : ℕ) (u : List ℕ) (q : Ran) → x ≡ Read.To f → Did base (metadata s f) o t u q → Did base (ended s at) o t u q
   unfolding ended lineEnd
-  ended-on f u q l k = must-token-read base o t x (lineEndAt s at) p (metadata s) at f u q l k
+  ended-on f u q l k = must-token-read base o t x (lineEndAt s at) p (metadata s) requiredNumber at f u q l k
 
-  pub ended-open : (u : List ℕ) → x ≡ Read.Miss → Did base (ended s at) o t u (Ran.Hard 4 at)
+  pub ended-open : (u : List ℕ) → x ≡ Read.Miss → Did base (ended s at) o t u (Ran.Hard requiredNumber at)
   unfolding ended lineEnd
-  ended-open u l = must-token-miss base o t x (lineEndAt s at) p (metadata s) at u l
+  ended-open u l = must-token-miss base o t x (lineEndAt s at) p (metadata s) requiredNumber at u l
 
 pub ruleset marked-laws = (chain, marked-is, sure-ended, marks-reach, marks-fits, line-within, line-rows, ended-on, ended-open)
 
@@ -133,15 +134,15 @@ and-same (Hard k p) g h f = refl
 
 module _ (s : List ℕ) where
   -- the required line end and metadata, and the body
-  ended-body : (c : ℕ) → (ended s c and body s) ≡ (must c (lineEnd s c) and λ d. metadata s d and body s)
+  ended-body : (c : ℕ) → (ended s c and body s) ≡ (must requiredNumber c (lineEnd s c) and λ d. metadata s d and body s)
   unfolding ended
-  ended-body c = and-assoc (must c (lineEnd s c)) (metadata s) (body s)
+  ended-body c = and-assoc (must requiredNumber c (lineEnd s c)) (metadata s) (body s)
 
-  marked-body : (b : ℕ) → (markedOf s b and body s) ≡ (marks s b and λ c. must c (lineEnd s c) and λ d. metadata s d and body s)
+  marked-body : (b : ℕ) → (markedOf s b and body s) ≡ (marks s b and λ c. must requiredNumber c (lineEnd s c) and λ d. metadata s d and body s)
   marked-body b =
       ap (λ a. a and body s) (marked-is s b) ∙ and-assoc (marks s b) (ended s) (body s) ∙ and-same (marks s b) (λ c. ended s c and body s) _ ended-body
 
-  texted-body : (a : ℕ) → (textedOf s a and body s) ≡ (textsOf s a and λ b. marks s b and λ c. must c (lineEnd s c) and λ d. metadata s d and body s)
+  texted-body : (a : ℕ) → (textedOf s a and body s) ≡ (textsOf s a and λ b. marks s b and λ c. must requiredNumber c (lineEnd s c) and λ d. metadata s d and body s)
   texted-body a =
       ap (λ x. x and body s) (texted-is s a) ∙ and-assoc (textsOf s a) (markedOf s) (body s) ∙ and-same (textsOf s a) (λ b. markedOf s b and body s) _ marked-body
 
@@ -161,7 +162,7 @@ module _ (s : List ℕ) where
       let N = length s in
       and-reach N a a (textsOf s a) _ (texts-of-reach s a h) (λ b p₂ q₂.
       and-reach N b a (marks s b) _ (marks-reach s b q₂) (λ c p₃ q₃.
-      and-reach N c a (must c (lineEnd s c)) _ (must-reach N c c _ q₃ (line-reach s c q₃)) (λ d p₄ q₄.
+      and-reach N c a (must requiredNumber c (lineEnd s c)) _ (must-reach N c requiredNumber c _ q₃ (line-reach s c q₃)) (λ d p₄ q₄.
       reach-from N d a (metadata s d) (omega arith) (metadata-reach s d q₄))))
 
   pub head-reach : (at : ℕ) → at ≤ length s → Reach (length s) at (headOf s at)
@@ -175,7 +176,7 @@ module _ (s : List ℕ) where
       let N = length s in
       and-fits N a a (textsOf s a) _ (texts-of-reach s a h) (fits-wide _ a _ (omega arith) (texts-of-fits s a h)) (λ b p₂ q₂.
       and-fits N b b (marks s b) _ (marks-reach s b q₂) (fits-wide _ b _ (omega arith) (marks-fits s b q₂)) (λ c p₃ q₃.
-      and-fits N c c (must c (lineEnd s c)) _ (must-reach N c c _ q₃ (line-reach s c q₃)) (must-fits c c _ (line-fits s c q₃)) (λ d p₄ q₄.
+      and-fits N c c (must requiredNumber c (lineEnd s c)) _ (must-reach N c requiredNumber c _ q₃ (line-reach s c q₃)) (must-fits c requiredNumber c _ (line-fits s c q₃)) (λ d p₄ q₄.
       fits-wide _ d _ (omega arith) (metadata-fits s d q₄))))
 
   pub head-fits : (at : ℕ) → at ≤ length s → FitsFrom anyKinds s at (headOf s at)

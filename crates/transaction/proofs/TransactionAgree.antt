@@ -21,6 +21,7 @@ use Rattle.text.specs.Boundaries.{isStart}
 use Rattle.text.proofs.StringSame.{string-ends}
 use Rattle.text.proofs.TokenEnds.{gap-reach, line-reach, string-reach}
 use Rattle.text.proofs.TextCut.{xs, ys, s, cut, seam, past-end, at-seam, gap-same}
+use Rattle.text.specs.Refusals.{requiredNumber}
 use Rattle.amount.specs.declared.detail.Detail.{Detail}
 use Rattle.amount.specs.Details.{Rows, span}
 use Rattle.row.specs.Strings.{counted}
@@ -89,7 +90,7 @@ second s a e = (gap s e and λ b. string s b and λ f. To f (span 21 (a + 1) (e 
 
 -- and after the texts
 abbrev rest : List ℕ → ℕ → Rows
-rest s at = marks s at and λ c. must c (lineEnd s c) and λ d. metadata s d and λ e. body s e
+rest s at = marks s at and λ c. must requiredNumber c (lineEnd s c) and λ d. metadata s d and λ e. body s e
 
 lines-reach : (s : List ℕ) (at : ℕ) → at ≤ length s → Reach (length s) at (metadata s at and λ e. body s e)
 lines-reach s at h =
@@ -99,11 +100,11 @@ rest-reach : (s : List ℕ) (at : ℕ) → at ≤ length s → Reach (length s) 
 rest-reach s at h =
     let n = length s in
     and-reach n at at (marks s at) _ (marks-reach s at h) (λ c p₁ q₁.
-    and-reach n c at (must c (lineEnd s c)) _ (must-reach n c c _ q₁ (line-reach s c q₁)) (λ d p₂ q₂. reach-from n d at _ (omega arith) (lines-reach s d q₂)))
+    and-reach n c at (must requiredNumber c (lineEnd s c)) _ (must-reach n c requiredNumber c _ q₁ (line-reach s c q₁)) (λ d p₂ q₂. reach-from n d at _ (omega arith) (lines-reach s d q₂)))
 
 rest-sure : (s : List ℕ) (at : ℕ) → Sure (rest s at)
 unfolding marks
-rest-sure s at = sure-and _ (sure-many _ _ at) (λ c. sure-and _ (sure-must c _) (λ d. sure-and _ (sure-metadata s d) (sure-body s)))
+rest-sure s at = sure-and _ (sure-many _ _ at) (λ c. sure-and _ (sure-must requiredNumber c _) (λ d. sure-and _ (sure-metadata s d) (sure-body s)))
 
 module _ (front t : List ℕ) (b : ℕ) (B : isStart b ≡ true) where
   abbrev X : List ℕ
@@ -195,7 +196,7 @@ module _ (front t : List ℕ) (b : ℕ) (B : isStart b ≡ true) where
   rest-agree at h =
       and-agree (marks-same at h) (λ c h₁.
       let l : c ≤ N = omega (arith, longer front t b B) in
-      and-loose N (line-agree front t b B c h₁) (must-reach N c c _ l (line-reach S c l)) (λ d _ l. lines-agree d l)
+      and-loose N (line-agree front t b B requiredNumber c h₁) (must-reach N c requiredNumber c _ l (line-reach S c l)) (λ d _ l. lines-agree d l)
       (λ j p q. lines-reach S j q) (λ j. sure-and _ (sure-metadata S j) (sure-body S)))
 
   pub transaction-agree : (at : ℕ) → at < M → Agrees M (suc M) false (transaction S at) (transaction X at)

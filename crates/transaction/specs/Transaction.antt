@@ -8,6 +8,7 @@ use Rattle.text.specs.Bytes.{bytes}
 use Rattle.text.specs.Run.{blanks}
 use Rattle.text.specs.Answer.{Ans, To, Miss, Hard, _then_, _and_, _else_, must, maybe, many}
 use Rattle.text.specs.Leaves.{gap, string, word, tag, link, lineEnd}
+use Rattle.text.specs.Refusals.{requiredNumber}
 use Rattle.amount.specs.Kinds.{flagKind, payeeKind, narrationKind, tagKind, linkKind}
 use Rattle.amount.specs.Details.{Rows, span}
 use Rattle.posting.specs.Metadata.{metadata}
@@ -38,4 +39,4 @@ marks s at = many (mark s) (suc (length s)) at
 
 unfoldable pub transaction : List ℕ → ℕ → Rows
 transaction s at =
-    opening s at and λ a. maybe a (texts s a) and λ b. marks s b and λ c. must c (lineEnd s c) and λ d. metadata s d and λ e. body s e
+    opening s at and λ a. maybe a (texts s a) and λ b. marks s b and λ c. must requiredNumber c (lineEnd s c) and λ d. metadata s d and λ e. body s e

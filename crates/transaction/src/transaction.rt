@@ -10,6 +10,7 @@ use row::writer::Ran;
 use text::Read;
 use text::bytes;
 use text::line;
+use text::refusal;
 use text::run;
 use text::run::Class;
 use text::string;
@@ -174,7 +175,7 @@ fn marked_at(s: &[u8], at: usize, base: usize, table: &mut [u8], out: Out) -> Ra
             let l = line::line_end(s, e);
             match l {
                 Read::To(f) => metadata::metadata_at(s, f, base, table, o),
-                Read::Miss => Ran::Hard(4, e),
+                Read::Miss => Ran::Hard(refusal::REQUIRED, e),
             }
         }
         Ran::Miss => Ran::Miss,

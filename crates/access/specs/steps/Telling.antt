@@ -5,6 +5,7 @@ use mathlib.Core.List.{List}
 use lib.Dec.{leb, ltb}
 use lib.ListN.{length}
 use Rattle.text.specs.Permitted.{clean, sizeLimit}
+use Rattle.text.specs.Refusals.{deepNumber}
 use Rattle.amount.specs.declared.expression.Answer.{Answer}
 use Rattle.access.specs.Single.{valueAnswer}
 use Rattle.access.specs.declared.single.Evaluated.{Evaluated}
@@ -19,7 +20,7 @@ judgedOf s =
 unfoldable pub toldOf : Answer → Evaluated
 toldOf (Answer.Read e v) = valueAnswer e v
 toldOf Answer.Miss = Evaluated.Refusal 11 0
-toldOf (Answer.Deep p) = Evaluated.Refusal 3 p
+toldOf (Answer.Deep p) = Evaluated.Refusal deepNumber p
 
 -- what refuses the text goes before what its expression answers
 unfoldable pub answered : Judged → Evaluated → Evaluated

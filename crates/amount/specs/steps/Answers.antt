@@ -4,11 +4,12 @@ use mathlib.Core.Bool.{Bool, true, false}
 use mathlib.Core.List.{List, [], _∷_}
 use Rattle.decimal.specs.declared.Value.{Value}
 use Rattle.text.specs.Answer.{Ans, To, Miss, Hard, _and_, must}
-use Rattle.text.specs.Leaves.{currency}
+use Rattle.text.specs.Leaves.{hardGap, currency}
+use Rattle.text.specs.Refusals.{requiredNumber}
 use Rattle.amount.specs.Kinds.{amountKind, currencyKind}
 use Rattle.amount.specs.Expression.{Arithmetic, negatedValue, isPlus, isTimes, atom, products, closed}
 use Rattle.amount.specs.Details.{Rows, zeroValue, span, valued}
-use Rattle.amount.specs.Amounts.{hardGap, hardAmount}
+use Rattle.amount.specs.Amounts.{hardAmount}
 use Rattle.amount.specs.declared.amounts.Priced.{Priced}
 use Rattle.amount.specs.declared.expression.Answer.{Answer}
 use Rattle.amount.specs.declared.detail.Detail.{Detail}
@@ -54,16 +55,17 @@ closedAnswer s (Answer.Deep p) = Answer.Deep p
 
 -- what follows the expression of a required amount
 unfoldable pub amountEnd : ℕ → List ℕ → ℕ → ℕ → Value → Rows
-amountEnd k s at e v = hardGap s e and λ c. must c (currency s c) and λ d. To d (valued k at e c d v ∷ [])
+amountEnd k s at e v =
+    hardGap requiredNumber s e and λ c. must requiredNumber c (currency s c) and λ d. To d (valued k at e c d v ∷ [])
 
 -- a price from after its currency
 unfoldable pub pricedFrom : List ℕ → ℕ → ℕ → Rows
-pricedFrom s at e = To e (span currencyKind at e ∷ []) and λ e. hardGap s e and λ g. hardAmount amountKind s g
+pricedFrom s at e = To e (span currencyKind at e ∷ []) and λ e. hardGap requiredNumber s e and λ g. hardAmount amountKind s g
 
 -- the answer of a reader that makes two rows and never misses
 unfoldable pub pairOf : Rows → Priced
-pairOf (To j []) = Priced.Hard 4 j
-pairOf (To j (d ∷ [])) = Priced.Hard 4 j
+pairOf (To j []) = Priced.Hard requiredNumber j
+pairOf (To j (d ∷ [])) = Priced.Hard requiredNumber j
 pairOf (To j (d ∷ e ∷ ds)) = Priced.Read j d e
-pairOf Miss = Priced.Hard 4 0
+pairOf Miss = Priced.Hard requiredNumber 0
 pairOf (Hard k p) = Priced.Hard k p

@@ -8,7 +8,7 @@ use Rattle.text.specs.Answer.{Ans, To, Miss, Hard, _and_, _else_}
 use Rattle.text.specs.declared.Read.{Read}
 use Rattle.amount.specs.Kinds.{priceKind, balanceKind, openKind, closeKind, padKind, commodityKind, eventKind}
 use Rattle.amount.specs.Details.{Rows}
-use Rattle.amount.specs.Amounts.{hardGap, hardCurrency, priceOf}
+use Rattle.amount.specs.Amounts.{hardCurrency, priceOf}
 use Rattle.row.specs.declared.writer.Out.{Out}
 use Rattle.row.specs.declared.writer.Ran.{Ran}
 use Rattle.row.specs.Details.{laid}
@@ -18,7 +18,8 @@ use Rattle.entry.specs.Directive.{keyword}
 use Rattle.entry.specs.Forms.{Form, asEntry}
 use Rattle.content.specs.steps.Parts.{contentOf}
 use Rattle.posting.specs.Metadata.{metadata}
-use Rattle.text.specs.Leaves.{lineEnd}
+use Rattle.text.specs.Leaves.{hardGap, lineEnd}
+use Rattle.text.specs.Refusals.{wordGapNumber}
 use Rattle.entry.specs.declared.directive.Formed.{Formed}
 use Rattle.entry.specs.declared.directive.Keyword.{Keyword}
 
@@ -41,7 +42,7 @@ unfoldable pub contentEnd : ℕ → List ℕ → ℕ → Rows
 contentEnd k s at = contentOf k s at and λ m. lineEnd s m and λ l. metadata s l
 
 unfoldable pub gapContent : ℕ → List ℕ → ℕ → Rows
-gapContent k s at = hardGap s at and λ g. contentEnd k s g
+gapContent k s at = hardGap wordGapNumber s at and λ g. contentEnd k s g
 
 -- the seven keywords with their contents
 unfoldable pub byKeyword : ℕ → List ℕ → ℕ → Ans Form

@@ -8,11 +8,11 @@ use lib.ListN.{getD}
 use Rattle.text.specs.Bytes.{inLine}
 use Rattle.text.specs.Run.{runTo}
 use Rattle.text.specs.Answer.{Ans, To, more, _and_, _else_, must}
-use Rattle.text.specs.Leaves.{gap, tag, lineEnd}
+use Rattle.text.specs.Leaves.{gap, hardGap, tag, lineEnd}
+use Rattle.text.specs.Refusals.{requiredNumber, wordGapNumber}
 use Rattle.amount.specs.Kinds.{blankKind, optionKind, includeKind, pushtagKind, poptagKind, tagKind, stringKind}
 use Rattle.amount.specs.declared.detail.Detail.{Detail}
 use Rattle.amount.specs.Details.{Rows, span, quoted}
-use Rattle.amount.specs.Amounts.{hardGap}
 use Rattle.row.specs.declared.writer.Out.{Out}
 use Rattle.content.specs.Contents.{hardString}
 use Rattle.entry.specs.Directive.{option, include, tagged}
@@ -32,10 +32,10 @@ unfoldable pub optionOf : List ℕ → ℕ → Rows
 optionOf s at = gap s at and λ b. quoted (span stringKind) s b and λ c. gap s c and λ d. quoted (span stringKind) s d and λ e. lineEnd s e
 
 unfoldable pub includeEnd : List ℕ → ℕ → Rows
-includeEnd s at = hardString s at and λ e. must e (lineEnd s e)
+includeEnd s at = hardString s at and λ e. must requiredNumber e (lineEnd s e)
 
 unfoldable pub includeOf : List ℕ → ℕ → Rows
-includeOf s at = hardGap s at and λ b. includeEnd s b
+includeOf s at = hardGap wordGapNumber s at and λ b. includeEnd s b
 
 unfoldable pub tagOf : List ℕ → ℕ → Rows
 tagOf s at = gap s at and λ b. tag s b and λ e. To e (span tagKind (b + 1) e ∷ [])

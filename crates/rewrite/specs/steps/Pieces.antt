@@ -6,6 +6,7 @@ use mathlib.Core.Bool.{cond}
 use mathlib.Core.List.{List, [], _∷_, _++_}
 use lib.Dec.{eqb, ltb}
 use Rattle.text.specs.Bytes.{bytes}
+use Rattle.text.specs.Every.{Every}
 use Rattle.amount.specs.Kinds.{firstDetail, transactionKind, priceKind, balanceKind, openKind, closeKind, padKind, commodityKind, flagKind, amountKind, postingKind, stringMetaKind, numberMetaKind}
 use Rattle.row.specs.declared.table.Row.{Row}
 use Rattle.layout.specs.Meaning.{Item}
@@ -26,8 +27,7 @@ pub record Flagged (x : Row) : Type 0 where
   pub low : x .kind ≡ postingKind → x .p < 256
 
 abbrev pub AllFlagged : List Row → Type 0
-AllFlagged [] = Unit {0}
-AllFlagged (x ∷ xs) = Flagged x × AllFlagged xs
+AllFlagged xs = Every Flagged xs
 
 -- behind an entry's date
 unfoldable pub datedText : ℕ → ℕ → List ℕ

@@ -2,6 +2,7 @@
 use Prim.Native.Nat.{ℕ, _*_}
 use mathlib.Core.Path.{_≡_}
 use mathlib.Core.List.{List, [], _∷_}
+use Rattle.text.specs.Every.{Every}
 use Rattle.row.specs.declared.table.Row.{Row}
 use lib.ListN.{length}
 use Rattle.row.specs.steps.Holding.{Held}
@@ -24,8 +25,7 @@ unfoldable pub monthPostings : List ℕ → ℕ → ℕ → List Row
 monthPostings s y m = postings (dated y m) (rowsOf (plain s))
 
 abbrev pub AllHeld : List Row → Type 0
-AllHeld [] = Unit {0}
-AllHeld (r ∷ rs) = Held r × AllHeld rs
+AllHeld rs = Every Held rs
 
 -- in a buffer of so many bytes
 unfoldable pub listedMonth : List ℕ → ℕ → ℕ → ℕ → Outcome

@@ -8,6 +8,7 @@ use Rattle.text.specs.Strings.{stringAt}
 use Rattle.text.specs.Words.{wordAt}
 use Rattle.text.specs.Leaves.{gap, string, link, lineEnd}
 use Rattle.text.specs.declared.Read.{Read}
+use Rattle.text.specs.Refusals.{requiredNumber}
 use Rattle.amount.specs.Kinds.{payeeKind, narrationKind, linkKind}
 use Rattle.amount.specs.Details.{Rows, span}
 use Rattle.row.specs.declared.writer.Out.{Out}
@@ -46,7 +47,7 @@ unfoldable pub linkMark : List ℕ → ℕ → Rows
 linkMark s b = link s b and λ e. To e (span linkKind (b + 1) e ∷ [])
 
 unfoldable pub markedOf : List ℕ → ℕ → Rows
-markedOf s at = marks s at and λ c. must c (lineEnd s c) and λ d. metadata s d
+markedOf s at = marks s at and λ c. must requiredNumber c (lineEnd s c) and λ d. metadata s d
 
 unfoldable pub textedOf : List ℕ → ℕ → Rows
 textedOf s at = textsOf s at and λ b. markedOf s b
