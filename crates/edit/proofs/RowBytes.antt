@@ -16,7 +16,7 @@ use Rattle.row.specs.Row.{atKind, atStart, atEnd, atLine, atP, atQ, atValue, fi
 use Rattle.row.specs.Details.{spanned}
 use Rattle.row.proofs.FieldLaws.{length-le, un-le, le-un}
 use Rattle.row.proofs.SameBytes.{mod-four, both, bytes-same}
-use Rattle.row.proofs.ReadBack.{wrapped, rows-front}
+use Rattle.row.proofs.ReadBack.{wrapped, rows-front, four-back}
 use Rattle.row.specs.Pouring.{bytesOf}
 use Rattle.entry.proofs.EntryLines.{OnLine}
 use Rattle.edit.specs.Edits.{moveOn, shift}
@@ -46,9 +46,6 @@ unfolding bytesOf
 all-wrapped [] = refl
 all-wrapped (r ∷ rs) = rw (wrapped-bytes r, all-wrapped rs)
 
-pub low-field : (x : ℕ) → x < fieldLimit → un (le 4 x) ≡ x
-low-field x h = un-le 4 x ∙ (omega arith)
-
 -- ---- moved: what was at a place from a on and at line l is b and m on now
 
 mod-in : (x d : ℕ) → ((x % fieldLimit + d) % fieldLimit) % fieldLimit ≡ (x + d) % fieldLimit
@@ -68,8 +65,8 @@ module _ (a b d l m j : ℕ) (hd : (a + d) % fieldLimit ≡ b % fieldLimit) (hj 
   unfolding shift wrapped moveAll
   shift-bytes r h =
       bytes-same _ _ (le-same 4 (r .kind)) (shift-field a b d (r .start) hd) (shift-field a b d (r .end) hd) (shift-field l m j (r .line) hj)
-      (rw (low-field (r .kind) (omega arith)) (some (spanned (r .kind)) (r .p)))
-      (rw (low-field (r .kind) (omega arith)) (some (spanned (r .kind) || eqb (r .kind) refusalKind) (r .q)))
+      (rw (four-back (r .kind) (omega arith)) (some (spanned (r .kind)) (r .p)))
+      (rw (four-back (r .kind) (omega arith)) (some (spanned (r .kind) || eqb (r .kind) refusalKind) (r .q)))
       (le-same 8 (r .bits))
     where
       some : (t : Bool) (z : ℕ) → le 4 (cond t (moveOn d (un (le 4 (cond t (a + z) z)))) (un (le 4 (cond t (a + z) z)))) ≡ le 4 (cond t (b + z) z)

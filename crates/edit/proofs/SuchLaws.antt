@@ -8,7 +8,7 @@ use Rattle.row.specs.declared.table.Row.{Row}
 use Rattle.row.specs.Field.{fieldLimit}
 use Rattle.edit.specs.Edits.{such}
 use Rattle.row.proofs.ReadBack.{wrapped}
-use Rattle.edit.proofs.RowBytes.{low-field}
+use Rattle.row.proofs.ReadBack.{four-back}
 
 pub such-append : (t : Row → Bool) (xs ys : List Row) → such t (xs ++ ys) ≡ such t xs ++ such t ys
 unfolding such
@@ -31,7 +31,7 @@ such-none t (r ∷ xs) (h, hs) = rw (h, such-none t xs hs)
 
 start-wrapped : (r : Row) → r .start < fieldLimit → wrapped r .start ≡ r .start
 unfolding wrapped
-start-wrapped r h = low-field (r .start) h
+start-wrapped r h = four-back (r .start) h
 
 -- a test of the start, which stands in the bytes as it is
 pub such-wrapped : (t : ℕ → Bool) (xs : List Row) → Every (λ r. r .start < fieldLimit) xs

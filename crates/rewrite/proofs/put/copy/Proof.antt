@@ -18,14 +18,17 @@ add-requires-2 c κs = search needs
 returns-2 : tie.Need-returns-2
 returns-2 c = search (needs, copy-laws)
 
-copy-whole-requires : tie.Need-copy-whole-requires
-copy-whole-requires c κs = search needs
+copy-requires : tie.Need-copy-requires
+copy-requires c κs = search needs
+
+add-result : tie.Need-add-result
+add-result c = search needs
 
 same-length : tie.Need-same-length
-same-length c = search needs
+same-length c = search (needs, copy-laws)
 
 returns-3 : tie.Need-returns-3
-returns-3 c = search needs
+returns-3 c = search (needs, copy-laws)
 
 pub copy-spec : {M : Type 1} → statement M
 copy-spec =
@@ -36,6 +39,7 @@ copy-spec =
     sub-if2
     add-requires-2
     returns-2
-    copy-whole-requires
+    copy-requires
+    add-result
     same-length
     returns-3)
