@@ -1,4 +1,5 @@
--- Two texts that hold the same line, without a quote, and go on otherwise: they share the line, and no string starts in it.
+-- Two texts that hold the same line, without a quote, and go on otherwise: they share the line, and no string starts
+-- in it.
 use Prim.Native.Nat.{ℕ, _+_, _<_}
 use native.Mathlib.Omega.{arith}
 use mathlib.Core.Path.{_≡_, refl, sym, _∙_}

@@ -1,4 +1,5 @@
--- Laws of the joins of readers, over their answers alone. Reach: what is read ends at i or after it, and within n; a refusal stands within n.
+-- Laws of the joins of readers, over their answers alone.
+--     Reach   what is read ends at i or after it, and within n; a refusal stands within n
 use Prim.Native.Nat.{ℕ, zero, suc, _≤_}
 use native.Mathlib.Omega.{arith}
 use mathlib.Core.Path.{_≡_, refl, ap}

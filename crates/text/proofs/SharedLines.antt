@@ -28,7 +28,10 @@ use Rattle.text.proofs.InLine.{hasLF, no-lf}
 use Rattle.text.proofs.Compared.{Compares, word-compares, shape-compares}
 use Rattle.text.proofs.Alike.{Alike, both-to, both-miss, both-hard, alike-map, cond-alike, if-alike, must-alike}
 
--- K: places of s and z where the same of the line is left, its line feed at least; P: places behind the line; Q: whether such places are equal
+-- What is known of two such texts.
+--     K    places of s and z where the same of the line is left, its line feed at least: they are alike
+--     P    places behind the line
+--     Q    where it holds, alike places are equal
 pub record Shared (Q : Type 0) (s z : List ℕ) (K P : ℕ → ℕ → Type 0) : Type 0 where
   pub byte : (i j : ℕ) → K i j → getD z j 0 ≡ getD s i 0
   pub next : (i j : ℕ) → K i j → eqb (getD s i 0) 10 ≡ false → K (i + 1) (j + 1)
@@ -224,7 +227,7 @@ module _ {Q : Type 0} {s z : List ℕ} {K P : ℕ → ℕ → Type 0} (L : Share
 
   -- ---- words and dates
 
-  -- a comparison with bytes that hold no line feed; where they stand, the same of the line is left at each of them and behind them
+  -- a comparison with bytes that hold no line feed; where they stand, each of them and the place behind them stands in the line
   module _ (m : List ℕ → List ℕ → Bool) (C : Compares m) where
     compared : (w : List ℕ) → hasLF w ≡ false → (i j : ℕ) → K i j → m w (drop j z) ≡ m w (drop i s)
     unfolding hasLF
