@@ -44,8 +44,8 @@ pub ruleset put-laws = (put-in, put-out, two-put)
 
 -- ---- a text with room for all of it
 
-pub copy-put : (t c u : List ℕ) (at : ℕ) → at + length c ≤ length t → length t * 1 < 2 ^ 63 → u ≡ sets t at c → Put t at c u (at + length c)
-copy-put t c u at h l e = record { bytes = λ _ _. e; next = λ _. omega arith; same = ap length e ∙ length-sets t at c }
+pub copy-put : (t c u : List ℕ) (at : ℕ) → at ≤ length t → length c ≤ length t - at → length t * 1 < 2 ^ 63 → u ≡ sets t at c → Put t at c u (at + length c)
+copy-put t c u at h k l e = record { bytes = λ _ _. e; next = λ _. omega arith; same = ap length e ∙ length-sets t at c }
 
 -- no room for it
 pub copy-past : (t c : List ℕ) (at r : ℕ) → length t < at → r ≡ min (at + length c) largest → Put t at c t r
