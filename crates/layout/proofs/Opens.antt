@@ -13,7 +13,7 @@ use Rattle.text.specs.Leaves.{gap, currency, token, comma}
 use Rattle.text.specs.Currencies.{currencyAt}
 use Rattle.text.specs.Lines.{gapAt, commaAt}
 use Rattle.text.proofs.Ats.{At}
-use Rattle.text.proofs.Inversions.{and-inv, token-inv}
+use Rattle.text.proofs.Inversions.{and-inv, to-inv, token-inv}
 use Rattle.text.specs.Every.{Every}
 use Rattle.text.proofs.EveryLaws.{every-left, every-right}
 use Rattle.amount.specs.Details.{Rows, span, quoted}
