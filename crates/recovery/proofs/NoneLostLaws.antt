@@ -10,6 +10,7 @@ use lib.Dec.{ltb, leb}
 use lib.IntN.{pos}
 use lib.ListN.{length, getD, take, drop, length-take, length-drop}
 use lib.Seq.{getD-take, getD-drop}
+use Rattle.text.proofs.EveryLaws.{every-left, every-right}
 use Rattle.text.specs.Bytes.{isDigit}
 use Rattle.text.specs.Permitted.{clean, sizeLimit}
 use Rattle.text.proofs.TestLaws.{absurd-bool}
@@ -70,8 +71,7 @@ further-on b l a rs d =
     }
 
 none-parts : (xs ys : List Row) → NoneRefused (xs ++ ys) → NoneRefused xs × NoneRefused ys
-none-parts [] ys h = (tt, h)
-none-parts (x ∷ xs) ys (h, hs) = let k = none-parts xs ys hs in ((h, k .0), k .1)
+none-parts xs ys h = (every-left _ xs ys h, every-right _ xs ys h)
 
 -- ---- the first entry of a text that starts with a digit
 

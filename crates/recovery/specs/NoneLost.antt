@@ -4,13 +4,14 @@ use Prim.Native.Nat.{ℕ, _-_, _≤_}
 use mathlib.Core.Path.{_≡_}
 use mathlib.Core.Bool.{true}
 use mathlib.Core.Logic.{_⊎_}
-use mathlib.Core.List.{List, [], _∷_, _++_}
+use mathlib.Core.List.{List, _∷_, _++_}
 use lib.ListN.{getD}
 use Rattle.text.specs.Bytes.{isDigit}
+use Rattle.text.specs.Every.{Every}
+use Rattle.amount.specs.Kinds.{transactionKind, eventKind, refusalKind}
 use Rattle.row.specs.declared.table.Row.{Row}
 use Rattle.ledger.specs.Plain.{accepted}
 use Rattle.recovery.specs.Recovering.{recoveredStrictly}
-use Rattle.amount.specs.Kinds.{transactionKind, eventKind, refusalKind}
 
 -- a line of the text s starts at place a, with a digit
 pub record DigitLine (s : List ℕ) (a : ℕ) : Type 0 where
@@ -19,8 +20,7 @@ pub record DigitLine (s : List ℕ) (a : ℕ) : Type 0 where
 
 -- no row is that of a refused block
 abbrev pub NoneRefused : List Row → Type 0
-NoneRefused [] = Unit {0}
-NoneRefused (r ∷ rs) = (r .kind ≡ refusalKind → ⊥) × NoneRefused rs
+NoneRefused rs = Every (λ (r : Row). r .kind ≡ refusalKind → ⊥) rs
 
 -- among the rows stands that of a directive (kinds 6 to 13) that starts at place a
 pub record DirectiveAt (rs : List Row) (a : ℕ) : Type 0 where
