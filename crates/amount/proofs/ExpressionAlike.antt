@@ -15,7 +15,7 @@ use Rattle.text.proofs.Steps.{drop-step, run-from}
 use Rattle.text.proofs.Joins.{Reach}
 use Rattle.text.proofs.Alike.{Alike, both-to, both-hard, then-alike, else-alike, cond-alike, if-alike, alike-from}
 use Rattle.text.proofs.SharedLines.{Shared, byte-same, told, step, run-both, run-alike, blanks-alike}
-use Rattle.amount.specs.Literal.{inLiteral, plain, literalAs, unsigned, literal}
+use Rattle.amount.specs.Literal.{inLiteral, isNumber, literalAs, unsigned, literal}
 use Rattle.text.specs.Refusals.{deepNumber}
 use Rattle.amount.specs.Expression.{Arithmetic, combined, expressionIn, isPlus, isTimes, goesOn, chain, atom, products, sums, negation, inGroup, closed, group, groups, within, expression}
 use Rattle.amount.proofs.ExpressionEnds.{atom-reach, products-reach, group-reach}
@@ -46,7 +46,7 @@ module _ {Q : Type 0} {s z : List ℕ} {K P : ℕ → ℕ → Type 0} (L : Share
   unsigned-alike m {i} {j} S =
       let T = run-alike L isSpace refl S in
       rw (run-between inLiteral refl T)
-      (if-alike (plain (between s (runTo isSpace s i) (runTo inLiteral s (runTo isSpace s i)))) _ _ (λ _. both-to _ _ _ _ (run-alike L inLiteral refl T) (λ _. refl)))
+      (if-alike (isNumber (between s (runTo isSpace s i) (runTo inLiteral s (runTo isSpace s i)))) _ _ (λ _. both-to _ _ _ _ (run-alike L inLiteral refl T) (λ _. refl)))
 
   literal-alike : Readers (literal s) (literal z)
   unfolding literal

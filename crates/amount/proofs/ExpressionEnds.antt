@@ -16,7 +16,7 @@ use Rattle.text.specs.Run.{runTo, blanks}
 use Rattle.text.specs.Answer.{Ans, To, Miss, Hard, _then_, _else_}
 use Rattle.text.proofs.Steps.{byte-within, getD-past, run-ends, run-from, run-within, run-first}
 use Rattle.text.proofs.Joins.{Reach, to-reach, miss-reach, hard-reach, reach-from, cond-reach, then-reach, else-reach}
-use Rattle.amount.specs.Literal.{inLiteral, count, plain, literalAs, unsigned, literal}
+use Rattle.amount.specs.Literal.{inLiteral, count, isNumber, literalAs, unsigned, literal}
 use Rattle.text.specs.Refusals.{deepNumber}
 use Rattle.amount.specs.Expression.{Arithmetic, combined, expressionIn, negatedValue, isPlus, isTimes, goesOn, chain, atom, products, sums, negation, inGroup, closed, group, groups, within, expression}
 
@@ -50,14 +50,14 @@ module _ (s : List ℕ) where
 
   -- no bytes are no literal
   pub none-between : (m : Bool) (c e : ℕ) → e ≤ c → literalAs m (between s c e) e ≡ Miss
-  unfolding literalAs plain count
+  unfolding literalAs isNumber count
   none-between m c e h = ap (λ n. literalAs m (take n (drop c s)) e) {x = e - c} {y = 0} (omega arith)
 
   as-reach : (m : Bool) (c e : ℕ) → (c < e → e ≤ N) → Reach N (c + 1) (literalAs m (between s c e) e)
   unfolding literalAs
   as-reach m c e f =
       elim (decLt c e) [
-        | yes l ↦ if-reach N (c + 1) (plain (between s c e)) (To e _) (λ _. to-reach N (c + 1) e _ (omega arith) (f l))
+        | yes l ↦ if-reach N (c + 1) (isNumber (between s c e)) (To e _) (λ _. to-reach N (c + 1) e _ (omega arith) (f l))
         | no l ↦ subst (Reach N (c + 1)) (sym (none-between m c e (omega arith))) (miss-reach N (c + 1))
       ]
 

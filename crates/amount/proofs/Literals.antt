@@ -15,7 +15,7 @@ use Rattle.text.specs.Bytes.{isDigit, isSpace, between}
 use Rattle.text.specs.Run.{runTo}
 use Rattle.text.specs.Answer.{Ans, To, Miss}
 use Rattle.text.proofs.Steps.{drop-step, getD-past, back, run-on, run-stops, run-ends, run-from}
-use Rattle.amount.specs.Literal.{inLiteral, isPoint, count, number, places, plain, literalAs, unsigned}
+use Rattle.amount.specs.Literal.{inLiteral, isPoint, count, number, places, isNumber, literalAs, unsigned}
 use Rattle.amount.specs.declared.literal.Whole.{Whole}
 use Rattle.amount.specs.steps.Kept.{wholeFrom, fractionFrom, ended, wholeLiteral, pointLiteral}
 use Rattle.amount.proofs.Digits.{Keeps, none-kept, whole-more, place-more, past-more, finished}
@@ -153,7 +153,7 @@ module _ (m : Bool) (s : List ℕ) where
 
 module _ (m : Bool) (s : List ℕ) (b c : ℕ) (w : Whole) (e : c ≡ runTo isSpace s b) (f : w ≡ wholeFrom 0 false (drop c s) c) where
   unsigned-is : unsigned m s b ≡ settled m s w
-  unfolding unsigned literalAs plain before
+  unfolding unsigned literalAs isNumber before
   unsigned-is = rw (f, e) (whole-is m s (runTo isSpace s b) 0 false 0 none-kept)
 
   pub point-is : getD s (w .end) 0 ≡ 46 → unsigned m s b ≡ pointLiteral m s w

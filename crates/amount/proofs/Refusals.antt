@@ -11,7 +11,7 @@ use Rattle.decimal.specs.declared.Value.{Value}
 use Rattle.text.specs.Run.{blanks}
 use Rattle.text.specs.Answer.{Ans, To, Miss, Hard, _then_, _else_}
 use Rattle.text.specs.Refusals.{deepNumber}
-use Rattle.amount.specs.Literal.{plain, literalAs, unsigned, literal}
+use Rattle.amount.specs.Literal.{isNumber, literalAs, unsigned, literal}
 use Rattle.amount.specs.Expression.{Arithmetic, combined, expressionIn, isPlus, isTimes, goesOn, chain, atom, products, sums, negation, inGroup, closed, group, groups, within, expression}
 
 -- the numbers of an answer's refusals are such
@@ -46,7 +46,7 @@ module _ (s : List ℕ) where
   -- a literal is refused by none
   unsigned-only : (P : ℕ → Type 0) (m : Bool) (b : ℕ) → Only P (unsigned m s b)
   unfolding unsigned literalAs
-  unsigned-only P m b = cond-only P (plain _) (To _ _) Miss tt tt
+  unsigned-only P m b = cond-only P (isNumber _) (To _ _) Miss tt tt
 
   literal-only : (P : ℕ → Type 0) (at : ℕ) → Only P (literal s at)
   unfolding literal

@@ -20,7 +20,7 @@ use Rattle.text.specs.Run.{blanks}
 use Rattle.text.specs.Answer.{Ans, To, Miss, Hard, _then_, _else_}
 use Rattle.text.specs.Refusals.{deepNumber}
 use Rattle.amount.specs.Details.{zeroValue}
-use Rattle.amount.specs.Literal.{literalAs, plain, unsigned, literal}
+use Rattle.amount.specs.Literal.{literalAs, isNumber, unsigned, literal}
 use Rattle.amount.specs.Expression.{groups, Arithmetic, negatedValue, operated, combined, isPlus, isTimes, goesOn, chain, atom, products, sums, negation, inGroup, closed, group, within, expressionIn, expression}
 
 abbrev Fine : Value → Type 0
@@ -151,7 +151,7 @@ module _ (calc : Arithmetic) (keeps : Keeps calc) where
 
 as-small : (m : Bool) (s : List ℕ) (e : ℕ) → Smalls (literalAs m s e)
 unfolding literalAs
-as-small m s e = if-small (plain s) _ Miss (to-small e _ (exact-small m _ _)) no-small
+as-small m s e = if-small (isNumber s) _ Miss (to-small e _ (exact-small m _ _)) no-small
 
 literal-small : (s : List ℕ) (at : ℕ) → Smalls (literal s at)
 unfolding literal unsigned

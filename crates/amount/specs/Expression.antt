@@ -56,8 +56,8 @@ unfoldable pub goesOn : Arithmetic → (ℕ → Bool) → (ℕ → Ans Value) �
 goesOn calc op x s zero v e = To e v
 goesOn calc op x s (suc k) v e =
     let i = blanks s e in
-    let more = (x (blanks s (i + 1)) then λ f w. goesOn calc op x s k (calc (getD s i 0) v w) f) else To e v in
-    cond (op (getD s i 0)) more (To e v)
+    let further = (x (blanks s (i + 1)) then λ f w. goesOn calc op x s k (calc (getD s i 0) v w) f) else To e v in
+    cond (op (getD s i 0)) further (To e v)
 
 -- an operand, and what goes on from it, left to right; each operator has a byte of its own
 unfoldable pub chain : Arithmetic → (ℕ → Bool) → (ℕ → Ans Value) → List ℕ → ℕ → Ans Value

@@ -35,12 +35,12 @@ places [] = 0
 places (b ∷ s) = cond (isPoint b) (count isDigit s) (places s)
 
 -- digits, at most one `.`, at least one digit
-unfoldable pub plain : List ℕ → Bool
-plain s = leb 1 (count isDigit s) && leb (count isPoint s) 1
+unfoldable pub isNumber : List ℕ → Bool
+isNumber s = leb 1 (count isDigit s) && leb (count isPoint s) 1
 
 -- the reading of the bytes s, which end at e: the digits' number over a power of ten, in millionths
 unfoldable pub literalAs : Bool → List ℕ → ℕ → Ans Value
-literalAs minus s e = cond (plain s) (To e (exact minus (number 0 s * 1000000) (10 ^ places s))) Miss
+literalAs minus s e = cond (isNumber s) (To e (exact minus (number 0 s * 1000000) (10 ^ places s))) Miss
 
 -- a literal whose sign, if any, ends at b: spaces are dropped, and a tab would stay, and miss
 unfoldable pub unsigned : Bool → List ℕ → ℕ → Ans Value

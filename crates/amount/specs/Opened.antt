@@ -7,7 +7,7 @@ use Rattle.text.specs.Opened as texts
 use Rattle.decimal.specs.Opened as decimals
 
 unfoldable pub opened : Unit {0}
-unfolding texts.opened decimals.opened Literal.inLiteral Literal.count Literal.number Literal.places Literal.plain
+unfolding texts.opened decimals.opened Literal.inLiteral Literal.count Literal.number Literal.places Literal.isNumber
     Literal.literalAs Literal.unsigned Literal.literal Expression.negatedValue Expression.operated Expression.combined
     Expression.isPlus Expression.isTimes Expression.goesOn Expression.chain Expression.atom Expression.products
     Expression.sums Expression.negation Expression.inGroup Expression.closed Expression.group Expression.within

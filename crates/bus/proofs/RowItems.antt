@@ -8,9 +8,8 @@ use lib.ListN.{length, drop, length-append, length-drop}
 use lib.Seq.{take-at, drop-at, take-append-le, drop-append-le, take-all}
 use Rattle.row.specs.declared.table.Row.{Row}
 use Rattle.row.specs.Field.{fieldAt}
-use Rattle.row.specs.Row.{rowBytes, rowsBytes, width}
+use Rattle.row.specs.Row.{rowBytes, rowsBytes, width, bytesOf}
 use Rattle.row.proofs.PourLaws.{length-rowBytes}
-use Rattle.row.specs.Pouring.{bytesOf}
 use Rattle.access.specs.Tables.{rowAt}
 use Rattle.bus.specs.Writing.{textOf}
 use Rattle.bus.specs.Back.{itemOf, items}

@@ -23,9 +23,8 @@ use Rattle.amount.specs.declared.expression.Answer.{Answer}
 use Rattle.amount.proofs.Forms.{was-read, was-miss}
 use Rattle.amount.proofs.Refusals.{expression-three}
 use Rattle.amount.proofs.AmountForms.{deep-three}
-use Rattle.row.specs.Row.{pourAt}
-use Rattle.row.specs.Details.{laid}
-use Rattle.row.specs.steps.Writing.{outs, someRow, Did}
+use Rattle.row.specs.steps.Pouring.{pourAt}
+use Rattle.row.specs.steps.Writing.{laid, outs, someRow, Did}
 use Rattle.row.specs.declared.writer.Out.{Out}
 use Rattle.row.specs.declared.writer.Ran.{Ran}
 use Rattle.row.proofs.SureLaws.{Sure, sure-to, sure-hard, sure-must, sure-and}

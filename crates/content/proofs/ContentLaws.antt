@@ -18,9 +18,8 @@ use Rattle.amount.specs.Amounts.{hardCurrency, hardAmount, priceOf}
 use Rattle.amount.specs.steps.Answers.{pairOf}
 use Rattle.amount.specs.declared.amounts.Priced.{Priced}
 use Rattle.amount.specs.declared.detail.Detail.{Detail}
-use Rattle.row.specs.Row.{pourAt}
-use Rattle.row.specs.Details.{laid}
-use Rattle.row.specs.steps.Writing.{noted, Did, Room}
+use Rattle.row.specs.steps.Pouring.{pourAt}
+use Rattle.row.specs.steps.Writing.{laid, noted, Did, Room}
 use Rattle.row.specs.declared.writer.Out.{Out}
 use Rattle.row.specs.declared.writer.Ran.{Ran}
 use Rattle.row.proofs.OutLaws.{noted-room, wrote-one, wrote-then}

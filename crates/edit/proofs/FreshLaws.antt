@@ -11,7 +11,8 @@ use lib.ListN.{length, drop, length-map}
 use lib.Seq.{drop-at}
 use Rattle.text.specs.Permitted.{sizeLimit}
 use Rattle.row.specs.declared.table.Row.{Row}
-use Rattle.row.specs.Row.{width, rowBytes, rowsBytes, rowIn, feeds, pour, room}
+use Rattle.row.specs.Row.{width, rowBytes, rowsBytes, rowIn, feeds, room, bytesOf}
+use Rattle.row.specs.steps.Pouring.{pour}
 use Rattle.row.proofs.PourLaws.{length-rowBytes, length-pour, pour-all}
 use Rattle.ledger.specs.Plain.{Reading, accepted, denied}
 use Rattle.ledger.specs.Answers.{answer, left}
@@ -24,7 +25,6 @@ use Rattle.edit.specs.declared.moves.By.{By}
 use Rattle.edit.specs.steps.Moving.{Small, shiftBy, movedIn, by, Fresh}
 use Rattle.edit.proofs.MoveLaws.{moveAll, recover-all}
 use Rattle.row.proofs.ReadBack.{wrapped, row-in}
-use Rattle.row.specs.Pouring.{bytesOf}
 use Rattle.edit.proofs.RowBytes.{all-shifted}
 
 module _ (y : List ℕ) (h : length y ≤ sizeLimit) where

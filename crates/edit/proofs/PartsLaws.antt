@@ -10,7 +10,8 @@ use mir.Syntax.{w64}
 use mir.Val.{Fits}
 use Rattle.text.specs.Permitted.{sizeLimit}
 use Rattle.row.specs.declared.table.Row.{Row}
-use Rattle.row.specs.Row.{width, rowIn, feeds, pour, pourAt}
+use Rattle.row.specs.Row.{width, rowIn, feeds}
+use Rattle.row.specs.steps.Pouring.{pour, pourAt}
 use Rattle.row.proofs.PourLaws.{length-pour, length-pourAt, pour-append, pourAt-at, pourAt-append}
 use Rattle.edit.specs.Edits.{before}
 use Rattle.text.proofs.Steps.{rest-of}

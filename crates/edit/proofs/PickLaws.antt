@@ -11,7 +11,8 @@ use lib.Seq.{drop-drop}
 use mir.Syntax.{w64}
 use mir.Val.{Fits}
 use Rattle.row.specs.declared.table.Row.{Row}
-use Rattle.row.specs.Row.{width, rowIn, pour, pourAt}
+use Rattle.row.specs.Row.{width, rowIn}
+use Rattle.row.specs.steps.Pouring.{pour, pourAt}
 use Rattle.row.proofs.PourLaws.{length-pourAt, pourAt-none, pourAt-zero, pourAt-append}
 use Rattle.text.proofs.Steps.{rest-of}
 use Rattle.edit.specs.declared.moves.By.{By}

@@ -8,7 +8,8 @@ use borrow.Author.Tests.{le-leb, lt-leb}
 use lib.Dec.{eqb, ltb, leb}
 use lib.ListN.{length, take, drop, length-take}
 use Rattle.row.specs.declared.table.Row.{Row}
-use Rattle.row.specs.Row.{width, rowIn, rowsIn, feeds, pour, room}
+use Rattle.row.specs.Row.{width, rowIn, rowsIn, feeds, room}
+use Rattle.row.specs.steps.Pouring.{pour}
 use Rattle.row.proofs.PourLaws.{pour-all}
 use Rattle.row.proofs.LineLaws.{feeds-le}
 use Rattle.row.specs.Field.{fieldLimit}

@@ -12,12 +12,11 @@ use Rattle.text.specs.Every.{Every}
 use Rattle.amount.proofs.RowCounts.{refusalKind}
 use Rattle.row.specs.declared.table.Row.{Row}
 use Rattle.row.specs.Field.{le, un, fieldLimit}
-use Rattle.row.specs.Row.{atKind, atStart, atEnd, atLine, atP, atQ, atValue, fieldsWidth, fieldBytes, fieldsIn, width, rowBytes, rowsBytes, rowIn, rowsIn}
+use Rattle.row.specs.Row.{atKind, atStart, atEnd, atLine, atP, atQ, atValue, fieldsWidth, fieldBytes, fieldsIn, width, rowBytes, rowsBytes, rowIn, rowsIn, bytesOf}
 use Rattle.row.specs.Details.{spanned}
 use Rattle.row.proofs.FieldLaws.{length-le, un-le, le-un}
 use Rattle.row.proofs.SameBytes.{mod-four, both, bytes-same}
 use Rattle.row.proofs.ReadBack.{wrapped, rows-front, four-back}
-use Rattle.row.specs.Pouring.{bytesOf}
 use Rattle.entry.proofs.EntryLines.{OnLine}
 use Rattle.edit.specs.Edits.{moveOn, shift}
 use Rattle.edit.specs.Afresh.{KeepsBytes}

@@ -10,7 +10,8 @@ use lib.Seq.{take-at, drop-at, drop-drop}
 use mir.Syntax.{w64}
 use mir.Val.{Fits}
 use Rattle.row.specs.declared.table.Row.{Row}
-use Rattle.row.specs.Row.{width, rowBytes, rowIn, pourAt}
+use Rattle.row.specs.Row.{width, rowBytes, rowIn}
+use Rattle.row.specs.steps.Pouring.{pourAt}
 use Rattle.row.specs.Details.{spanned}
 use Rattle.row.proofs.PourLaws.{length-rowBytes, length-pourAt, pour-none, pour-fits, pourAt-at}
 use Rattle.row.specs.Field.{fieldLimit}

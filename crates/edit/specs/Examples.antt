@@ -5,9 +5,8 @@ use mathlib.Core.Path.{_≡_, refl}
 use mathlib.Core.List.{List, [], _∷_, _++_, map}
 use Rattle.text.specs.Bytes.{bytes, isDigit, isSmall}
 use Rattle.row.specs.declared.table.Row.{Row}
-use Rattle.row.specs.Row.{rowBytes, rowsBytes, rowIn, rowsIn, feeds, fieldBytes, fieldsIn}
+use Rattle.row.specs.Row.{rowBytes, rowsBytes, rowIn, rowsIn, feeds, fieldBytes, fieldsIn, bytesOf}
 use Rattle.row.specs.Details.{spanned}
-use Rattle.row.specs.Pouring.{bytesOf}
 use Rattle.ledger.specs.Plain.{Reading, accepted, denied}
 use Rattle.recovery.specs.Recovering.{blockLength, recoverBy}
 use Rattle.recovery.specs.Demand3.{startsTail, endsLine}

@@ -8,7 +8,8 @@ ghost use mathlib.Core.Path.{_≡_};
 ghost use mathlib.Core.Bool.{cond};
 ghost use Prim.Native.Nat.{_+_, _<_, _^_};
 ghost use lib.ListN.{length};
-ghost use Rattle.row.specs.Row.{rowIn, pour, pourAt};
+ghost use Rattle.row.specs.Row.{rowIn};
+ghost use Rattle.row.specs.steps.Pouring.{pour, pourAt};
 ghost use Rattle.edit.specs.steps.Moving.{Small, shiftBy, picks, picked, pickedRows, Given};
 
 // Rows that start before the bound, or those that start there and later, which are moved.

@@ -24,8 +24,7 @@ use Rattle.amount.proofs.RowCounts.{Fits, fits-at}
 use Rattle.posting.specs.Metadata.{metadata}
 use Rattle.row.specs.declared.writer.Out.{Out}
 use Rattle.row.specs.declared.writer.Ran.{Ran}
-use Rattle.row.specs.Details.{laid}
-use Rattle.row.specs.steps.Writing.{outs, Poured, Did}
+use Rattle.row.specs.steps.Writing.{laid, outs, Poured, Did}
 use Rattle.row.proofs.OutLaws.{rows-outs, poured-none, poured-past}
 use Rattle.row.proofs.DidLaws.{was-read, and-read, and-miss, and-hard}
 use Rattle.row.proofs.TokenLaws.{token-read, token-miss, must-token-read, must-token-miss}
@@ -33,8 +32,7 @@ use Rattle.content.specs.Contents.{hardAccount, balanceOf, openOf, padOf, event
 use Rattle.transaction.specs.Transaction.{transaction}
 use Rattle.entry.specs.Forms.{Form, asEntry, dateless, directive}
 use Rattle.content.specs.steps.Parts.{contentOf}
-use Rattle.entry.specs.steps.Formed.{contentEnd}
-use Rattle.entry.specs.steps.Formed.{keywordAt, gapContent, byKeyword, formedOf, DidForm}
+use Rattle.entry.specs.steps.Formed.{contentEnd, keywordAt, gapContent, byKeyword, formedOf, DidForm}
 use Rattle.entry.specs.declared.directive.Formed.{Formed}
 use Rattle.entry.specs.declared.directive.Keyword.{Keyword}
 use Rattle.content.proofs.ContentEnds.{hard-account-reach, balance-of-reach, open-of-reach, pad-of-reach, event-of-reach}

@@ -18,9 +18,10 @@ use Rattle.text.specs.Permitted.{sizeLimit}
 use Rattle.text.specs.Refusals.{deepNumber}
 use Rattle.amount.specs.declared.detail.Detail.{Detail}
 use Rattle.row.specs.declared.writer.Out.{Out}
-use Rattle.row.specs.Row.{rowOf, pour, placeOf}
-use Rattle.row.specs.Details.{laid, valuePlace}
-use Rattle.row.specs.steps.Writing.{more, noted, outs, Poured}
+use Rattle.row.specs.Row.{rowOf}
+use Rattle.row.specs.steps.Pouring.{pour, placeOf}
+use Rattle.row.specs.Details.{valuePlace}
+use Rattle.row.specs.steps.Writing.{laid, oneMore, noted, outs, Poured}
 use Rattle.row.proofs.OutLaws.{rows-outs}
 use Rattle.row.proofs.PourLaws.{pourAt-zero}
 use Rattle.row.proofs.TableLaws.{head-and-rest}
@@ -37,15 +38,15 @@ use Rattle.entry.proofs.FormLaws.{form-was, form-missed, form-refused}
 -- ---- the first refused value
 
 -- one that is held stays
-noted-kept : (o : Out) (d : Detail) → 0 < o .bad → noted o d ≡ more o
+noted-kept : (o : Out) (d : Detail) → 0 < o .bad → noted o d ≡ oneMore o
 unfolding noted
 noted-kept o d h = go (d .value) refl
   where
-    go : (v : Value) → d .value ≡ v → noted o d ≡ more o
+    go : (v : Value) → d .value ≡ v → noted o d ≡ oneMore o
     go (Known x) e = rw e
     go (Refused n) e = rw (e, ne-eqb (o .bad) 0 (λ q. omega arith))
 
-noted-known : (o : Out) (d : Detail) (x : Decimal) → d .value ≡ Known x → noted o d ≡ more o
+noted-known : (o : Out) (d : Detail) (x : Decimal) → d .value ≡ Known x → noted o d ≡ oneMore o
 unfolding noted
 noted-known o d x e = rw e
 
@@ -57,7 +58,7 @@ outs-kept : (ds : List Detail) (o : Out) → 0 < o .bad → ((outs o ds) .bad �
 unfolding outs
 outs-kept [] o h = (refl, refl)
 outs-kept (d ∷ ds) o h =
-    subst (λ m. ((outs m ds) .bad ≡ o .bad) × ((outs m ds) .place ≡ o .place)) (sym (noted-kept o d h)) (outs-kept ds (more o) h)
+    subst (λ m. ((outs m ds) .bad ≡ o .bad) × ((outs m ds) .place ≡ o .place)) (sym (noted-kept o d h)) (outs-kept ds (oneMore o) h)
 
 -- the values are judged by what is held after the details
 abbrev heldVerdict : Reads → Out → Reads
@@ -74,9 +75,9 @@ judged-refused d ds r n e = rw e
 judged-held : (ds : List Detail) (o : Out) (r : Reads) → o .bad ≡ 0 → judged ds r ≡ heldVerdict r (outs o ds)
 unfolding judged outs
 judged-held [] o r h = rw h
-judged-held (d ∷ ds) o r h = go (d .value) refl (judged-held ds (more o) r h)
+judged-held (d ∷ ds) o r h = go (d .value) refl (judged-held ds (oneMore o) r h)
   where
-    go : (v : Value) → d .value ≡ v → judged ds r ≡ heldVerdict r (outs (more o) ds) → judged (d ∷ ds) r ≡ heldVerdict r (outs (noted o d) ds)
+    go : (v : Value) → d .value ≡ v → judged ds r ≡ heldVerdict r (outs (oneMore o) ds) → judged (d ∷ ds) r ≡ heldVerdict r (outs (noted o d) ds)
     go (Known x) e ih = judged-known d ds r x e ∙ (subst (λ m. judged ds r ≡ heldVerdict r (outs m ds)) (sym (noted-known o d x e)) ih)
     go (Refused n) e ih =
         let k = outs-kept ds (record { rows = o .rows + 1; bad = n + 1; place = valuePlace d }) (omega arith) in

@@ -29,9 +29,8 @@ use Rattle.amount.specs.Details.{Rows, span, quoted}
 use Rattle.amount.specs.steps.Answers.{oneOf}
 use Rattle.row.specs.declared.writer.Out.{Out}
 use Rattle.row.specs.declared.writer.Ran.{Ran}
-use Rattle.row.specs.Row.{pourAt}
-use Rattle.row.specs.Details.{laid}
-use Rattle.row.specs.steps.Writing.{noted, outs, Did}
+use Rattle.row.specs.steps.Pouring.{pourAt}
+use Rattle.row.specs.steps.Writing.{laid, noted, outs, Did}
 use Rattle.row.proofs.OutLaws.{wrote-one, wrote-then, poured-none, noted-room}
 use Rattle.row.proofs.DidLaws.{did-read, did-emit, and-read, and-miss, and-hard}
 use Rattle.row.proofs.TokenLaws.{token-read, token-miss, must-token-read, must-token-miss, must-token-end, must-token-end-miss}

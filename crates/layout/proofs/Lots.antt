@@ -22,7 +22,7 @@ use Rattle.text.proofs.Inversions.{and-inv, then-inv, else-inv, to-inv}
 use Rattle.text.proofs.TestLaws.{differ}
 use Rattle.text.proofs.TokenEnds.{date-reach, byte-reach, run-reach, comma-reach}
 use Rattle.amount.specs.Details.{named}
-use Rattle.amount.specs.Literal.{inLiteral, number, places, plain, literalAs, unsigned, literal}
+use Rattle.amount.specs.Literal.{inLiteral, number, places, isNumber, literalAs, unsigned, literal}
 use Rattle.amount.specs.Expression.{expression, Arithmetic, combined, isPlus, isTimes, goesOn, chain, products, sums, negation, inGroup, group, groups, within, expressionIn}
 use Rattle.amount.specs.Amounts.{amount}
 use Rattle.amount.specs.declared.detail.Detail.{Detail}
@@ -55,9 +55,9 @@ module _ {s : List ℕ} {i : ℕ} (b : ℕ) (ds t : List ℕ) (B : isDigit b ≡
   digits-value : Value
   digits-value = exact false (number 0 (b ∷ ds) * 1000000) (10 ^ places (b ∷ ds))
 
-  digits-plain : plain (b ∷ ds) ≡ true
-  unfolding plain
-  digits-plain = rw (count-digits (b ∷ ds) (B, D), count-points (b ∷ ds) (B, D), le-leb 1 (suc (length ds)) (omega arith))
+  digits-number : isNumber (b ∷ ds) ≡ true
+  unfolding isNumber
+  digits-number = rw (count-digits (b ∷ ds) (B, D), count-points (b ∷ ds) (B, D), le-leb 1 (suc (length ds)) (omega arith))
 
   digits-read : literal s i ≡ To (i + length (b ∷ ds)) digits-value
   unfolding literal unsigned literalAs digits-value
@@ -69,7 +69,7 @@ module _ {s : List ℕ} {i : ℕ} (b : ℕ) (ds t : List ℕ) (B : isDigit b ≡
         run-at s inLiteral (b ∷ ds) t i A
             (digit-literal b B, all-part isDigit inLiteral digit-literal ds D) o,
         at-text (b ∷ ds) t A,
-        digits-plain,
+        digits-number,
       )
 
 module _ (s : List ℕ) (calc : Arithmetic) (g : ℕ → Ans Value) where

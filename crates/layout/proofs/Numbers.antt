@@ -12,7 +12,7 @@ use Rattle.decimal.specs.Exact.{limit, exact, decimalOf}
 use Rattle.decimal.specs.declared.Value.the-variants.{Known}
 use Rattle.text.specs.Bytes.{isDigit}
 use Rattle.text.proofs.TestLaws.{differ, and-left, and-right}
-use Rattle.amount.specs.Literal.{inLiteral, count, isPoint, number, places, plain}
+use Rattle.amount.specs.Literal.{inLiteral, count, isPoint, number, places, isNumber}
 use Rattle.amount.proofs.Digits.{ten-pos}
 use Rattle.layout.specs.Written.{digit, wholeText, zeros, trimmed, six, fractionText, sizeText}
 
@@ -268,9 +268,9 @@ size-literal n =
     all-append inLiteral (wholeText 8 (n / 1000000)) (fractionText (n % 1000000))
     (all-part isDigit inLiteral digit-literal (wholeText 8 (n / 1000000)) (whole-digits 8 (n / 1000000))) (fraction-literal (n % 1000000))
 
-pub size-plain : (n : ℕ) → plain (sizeText n) ≡ true
-unfolding sizeText plain
-size-plain n =
+pub size-number : (n : ℕ) → isNumber (sizeText n) ≡ true
+unfolding sizeText isNumber
+size-number n =
     let a = wholeText 8 (n / 1000000) in
     let b = fractionText (n % 1000000) in
     let h = whole-digits 8 (n / 1000000) in

@@ -8,7 +8,7 @@ use lib.ListN.{length, take}
 use Rattle.text.specs.Answer.{To}
 use Rattle.amount.specs.declared.detail.Detail.{Detail}
 use Rattle.row.specs.Row.{rowOf}
-use Rattle.row.specs.Details.{laid}
+use Rattle.row.specs.steps.Writing.{laid}
 use Rattle.entry.specs.Forms.{Form, formOf}
 use Rattle.entry.specs.Entry.{detailRow, rowsOf}
 use Rattle.entry.proofs.EntryTold.{form-kind}

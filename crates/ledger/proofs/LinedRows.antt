@@ -9,8 +9,9 @@ use lib.ListN.{length, take, length-map}
 use Rattle.text.specs.Permitted.{sizeLimit}
 use Rattle.text.specs.Every.{Every}
 use Rattle.row.specs.declared.table.Row.{Row}
-use Rattle.row.specs.Row.{feeds, lined, pour, room}
-use Rattle.row.specs.steps.Sweep.{linesSet}
+use Rattle.row.specs.Row.{feeds, room}
+use Rattle.row.specs.steps.Sweep.{lined, linesSet}
+use Rattle.row.specs.steps.Pouring.{pour}
 use Rattle.row.proofs.PourLaws.{pour-room}
 use Rattle.row.proofs.SweepLaws.{Low, lines-poured}
 use Rattle.entry.proofs.EntryLines.{OnLine}

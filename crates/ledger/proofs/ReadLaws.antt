@@ -12,14 +12,14 @@ use lib.ListN.{length, length-map, take, drop, length-take, drop-of-length-le}
 use Rattle.text.specs.Permitted.{clean, sizeLimit}
 use Rattle.amount.proofs.RowCounts.{refusalKind}
 use Rattle.row.specs.declared.table.Row.{Row}
-use Rattle.row.specs.Row.{pour, rowsBytes, room, width}
+use Rattle.row.specs.Row.{rowsBytes, room, width}
+use Rattle.row.specs.steps.Pouring.{pour}
 use Rattle.row.specs.Details.{spanned}
-use Rattle.ledger.specs.Strict.{objection}
+use Rattle.ledger.specs.Strict.{objection, firstRefused, judged, readingBy}
 use Rattle.row.specs.steps.Writing.{Poured}
 use Rattle.row.specs.steps.Sweep.{linesSet}
 use Rattle.row.proofs.PourLaws.{pour-all, pour-append, pourAt-full, pourAt-zero, length-pour}
 use Rattle.ledger.specs.Plain.{move, moved, Reading, accepted, denied, readFrom, partAt, part, plain}
-use Rattle.ledger.specs.Strict.{firstRefused, judged, readingBy}
 use Rattle.ledger.specs.Answers.{answer, left}
 use Rattle.ledger.specs.steps.Scan.{withLine, movedReading, scanned, partAtBy, scanAnswer, ScanPoured}
 use Rattle.ledger.specs.declared.read.Answer.{Answer}

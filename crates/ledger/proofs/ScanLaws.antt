@@ -10,7 +10,8 @@ use lib.ListN.{length, take, drop, length-append, length-map, length-drop, drop-
 use lib.Seq.{drop-drop}
 use Rattle.text.specs.Permitted.{sizeLimit}
 use Rattle.row.specs.declared.table.Row.{Row}
-use Rattle.row.specs.Row.{pour, pourAt, placeOf, feeds}
+use Rattle.row.specs.Row.{feeds}
+use Rattle.row.specs.steps.Pouring.{pour, pourAt, placeOf}
 use Rattle.row.specs.steps.Writing.{Poured}
 use Rattle.row.proofs.PourLaws.{pourAt-zero}
 use Rattle.row.proofs.OutLaws.{poured-none, poured-then}

@@ -3,8 +3,7 @@ use Prim.Native.Nat.{ℕ, _/_}
 use mathlib.Core.List.{List}
 use lib.ListN.{length}
 use Rattle.row.specs.declared.table.Row.{Row}
-use Rattle.row.specs.Pouring.{bytesOf, poured, pouredAt}
-use Rattle.row.specs.Row.{fieldsWidth, fieldBytes}
+use Rattle.row.specs.Row.{bytesOf, fieldsWidth, fieldBytes}
 
 abbrev pub recordWidth : ℕ
 recordWidth = fieldsWidth
@@ -16,10 +15,3 @@ recordRoom t = length t / recordWidth
 -- the bytes of rows as records
 abbrev pub recordsBytes : List Row → List ℕ
 recordsBytes rs = bytesOf fieldBytes rs
-
--- a buffer after they were written from its front, or from record n on
-abbrev pub putRecords : List Row → List ℕ → List ℕ
-putRecords rs t = poured recordWidth fieldBytes rs t
-
-abbrev pub putRecordsAt : ℕ → List Row → List ℕ → List ℕ
-putRecordsAt n rs t = pouredAt recordWidth fieldBytes n rs t

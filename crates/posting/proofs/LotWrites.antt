@@ -18,9 +18,8 @@ use Rattle.amount.specs.Amounts.{amount}
 use Rattle.amount.specs.steps.Answers.{noRow, oneOf}
 use Rattle.amount.specs.declared.detail.Detail.{Detail}
 use Rattle.amount.specs.declared.detail.One.{One}
-use Rattle.row.specs.Row.{pourAt}
-use Rattle.row.specs.Details.{laid}
-use Rattle.row.specs.steps.Writing.{someRow, noted, outs, Did}
+use Rattle.row.specs.steps.Pouring.{pourAt}
+use Rattle.row.specs.steps.Writing.{laid, someRow, noted, outs, Did}
 use Rattle.row.specs.declared.writer.Out.{Out}
 use Rattle.row.specs.declared.writer.Ran.{Ran}
 use Rattle.row.proofs.DidLaws.{did-read, did-miss, did-hard, did-none, did-emit, maybe-read, maybe-miss, maybe-hard}

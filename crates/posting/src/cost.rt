@@ -17,9 +17,8 @@ use text::run::Class;
 ghost use mathlib.Core.Path.{_≡_};
 ghost use mathlib.Core.List.{map};
 ghost use Rattle.amount.specs.steps.Answers.{oneOf};
-ghost use Rattle.row.specs.Row.{pourAt};
-ghost use Rattle.row.specs.Details.{laid};
-ghost use Rattle.row.specs.steps.Writing.{Did, outs, Writable};
+ghost use Rattle.row.specs.steps.Pouring.{pourAt};
+ghost use Rattle.row.specs.steps.Writing.{laid, Did, outs, Writable};
 ghost use Rattle.posting.specs.Costs.{price, inside, cost};
 ghost use Rattle.posting.specs.steps.Lots.{braceAt, lotOf, gapAmount, amountDate, dateAmount, alone, dateFirst, optionalPrice, optionalCost};
 

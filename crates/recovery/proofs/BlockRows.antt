@@ -8,7 +8,8 @@ use lib.ListN.{length, length-map}
 use Rattle.decimal.specs.Exact.{twosOf}
 use Rattle.amount.proofs.RowCounts.{refusalKind}
 use Rattle.row.specs.declared.table.Row.{Row}
-use Rattle.row.specs.Row.{rowOf, feeds, pour}
+use Rattle.row.specs.Row.{rowOf, feeds}
+use Rattle.row.specs.steps.Pouring.{pour}
 use Rattle.ledger.specs.Plain.{move, moved, Reading, accepted, denied}
 use Rattle.ledger.specs.Strict.{partBy}
 use Rattle.ledger.specs.steps.Scan.{withLine, movedReading, partAtBy, scanAnswer, ScanPoured}

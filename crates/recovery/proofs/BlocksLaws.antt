@@ -11,8 +11,8 @@ use lib.Seq.{take-all, drop-drop, length-take-le}
 use Rattle.text.specs.Permitted.{sizeLimit}
 use Rattle.amount.proofs.RowCounts.{refusalKind}
 use Rattle.row.specs.declared.table.Row.{Row}
-use Rattle.row.specs.Row.{placeOf, feeds}
-use Rattle.row.specs.Pouring.{bytesOf}
+use Rattle.row.specs.Row.{feeds, bytesOf}
+use Rattle.row.specs.steps.Pouring.{placeOf}
 use Rattle.ledger.specs.Strict.{partBy}
 use Rattle.ledger.specs.declared.scan.Profile.{Profile}
 use Rattle.ledger.specs.steps.Scan.{withLine}

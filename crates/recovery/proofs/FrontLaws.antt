@@ -7,10 +7,10 @@ use borrow.Rule.Slice.PartMut.{putMid}
 use lib.ListN.{length, take, drop, length-append, length-take, length-drop, drop-of-length-le}
 use lib.Seq.{take-at, take-all, take-append-add, length-take-le}
 use Rattle.row.specs.declared.table.Row.{Row}
-use Rattle.row.specs.Row.{rowsBytes, pour, placeOf, width}
+use Rattle.row.specs.Row.{rowsBytes, width, bytesOf}
+use Rattle.row.specs.steps.Pouring.{pour, placeOf}
 use Rattle.row.specs.steps.Writing.{Poured}
 use Rattle.row.proofs.PourLaws.{length-rowsBytes, length-pour, pour-all, pour-append, pourAt-zero, pourAt-at}
-use Rattle.row.specs.Pouring.{bytesOf}
 use Rattle.recovery.specs.steps.Front.{Front}
 
 pub rows-append : (xs ys : List Row) → rowsBytes (xs ++ ys) ≡ rowsBytes xs ++ rowsBytes ys

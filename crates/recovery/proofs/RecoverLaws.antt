@@ -9,7 +9,8 @@ use lib.ListN.{length, take, drop, length-map}
 use Rattle.text.specs.Permitted.{sizeLimit}
 use Rattle.amount.proofs.RowCounts.{refusalKind}
 use Rattle.row.specs.declared.table.Row.{Row}
-use Rattle.row.specs.Row.{pour, room, width}
+use Rattle.row.specs.Row.{room, width}
+use Rattle.row.specs.steps.Pouring.{pour}
 use Rattle.row.specs.steps.Sweep.{linesSet}
 use Rattle.ledger.specs.Plain.{accepted, denied}
 use Rattle.ledger.specs.Answers.{answer, left}

@@ -6,9 +6,8 @@ use mathlib.Core.List.{List, [], _∷_, _++_, map}
 use Rattle.text.specs.Answer.{To, Miss, Hard, must, _else_, more, _and_, maybe}
 use Rattle.amount.specs.Details.{Rows}
 use Rattle.amount.specs.declared.detail.Detail.{Detail}
-use Rattle.row.specs.Row.{pourAt}
-use Rattle.row.specs.Details.{laid}
-use Rattle.row.specs.steps.Writing.{noted, outs, Poured, Did}
+use Rattle.row.specs.steps.Pouring.{pourAt}
+use Rattle.row.specs.steps.Writing.{laid, noted, outs, Poured, Did}
 use Rattle.row.specs.declared.writer.Out.{Out}
 use Rattle.row.specs.declared.writer.Ran.{Ran}
 use Rattle.row.proofs.OutLaws.{Wrote, wrote-none, wrote-one, Written, written, written-then, poured-none, poured-drop, poured-past}

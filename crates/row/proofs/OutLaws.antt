@@ -11,9 +11,8 @@ use lib.ListN.{length, length-map, drop}
 use Rattle.decimal.specs.declared.Value.{Value}
 use Rattle.decimal.specs.declared.Value.the-variants.{Known, Refused}
 use Rattle.amount.specs.declared.detail.Detail.{Detail}
-use Rattle.row.specs.Row.{pourAt}
-use Rattle.row.specs.Details.{laid}
-use Rattle.row.specs.steps.Writing.{noted, outs, someRow, Poured, Room}
+use Rattle.row.specs.steps.Pouring.{pourAt}
+use Rattle.row.specs.steps.Writing.{laid, noted, outs, someRow, Poured, Room}
 use Rattle.row.specs.declared.table.Row.{Row}
 use Rattle.row.specs.declared.writer.Out.{Out}
 use Rattle.row.proofs.PourLaws.{pourAt-none, pourAt-append, pourAt-over}

@@ -4,7 +4,8 @@ use mathlib.Core.List.{List, [], _∷_, _++_}
 use Prim.Native.Nat.{ℕ, _+_, _*_, _<_, _≤_}
 use native.Mathlib.Omega.{arith}
 use lib.ListN.{length, take, drop}
-use Rattle.row.specs.Row.{fieldsWidth, fieldBytes, width, rowBytes, rowsBytes, room, pour, pourAt}
+use Rattle.row.specs.Row.{fieldsWidth, fieldBytes, width, rowBytes, rowsBytes, room}
+use Rattle.row.specs.steps.Pouring.{pour, pourAt}
 use Rattle.row.specs.declared.table.Row.{Row}
 use Rattle.row.proofs.PouredLaws.{poured-none, poured-short, poured-fits, poured-all, poured-append, poured-head, length-bytesOf, length-poured, length-pouredAt, pouredAt-none, pouredAt-zero, pouredAt-short, pouredAt-at, pouredAt-append, pouredAt-over}
 pub use Rattle.row.proofs.PouredLaws.{le-or-lt}

@@ -11,7 +11,8 @@ use borrow.Rule.Slice.PartMut.{putMid}
 use lib.Dec.{leb}
 use lib.ListN.{length, take, drop, take-append-drop, drop-of-length-le, length-append, length-take, length-drop}
 use lib.Seq.{take-all, take-at, drop-at, drop-drop}
-use Rattle.row.specs.Pouring.{bytesOf, placeAt, poured, pouredAt}
+use Rattle.row.specs.Row.{bytesOf}
+use Rattle.row.specs.steps.Pouring.{placeAt, poured, pouredAt}
 
 -- either a number is at most another, or it is past it
 pub le-or-lt : (a b : ℕ) → (a ≤ b) ⊎ (b < a)

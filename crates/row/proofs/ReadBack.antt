@@ -15,8 +15,7 @@ use Rattle.decimal.specs.declared.Value.the-variants.{Known, Refused}
 use Rattle.amount.proofs.ValueSizes.{Small}
 use Rattle.row.specs.declared.table.Row.{Row}
 use Rattle.row.specs.Field.{le, un, fieldLimit}
-use Rattle.row.specs.Pouring.{bytesOf}
-use Rattle.row.specs.Row.{fieldBytes, fieldsIn, width, rowBytes, rowsBytes, rowIn, rowsIn}
+use Rattle.row.specs.Row.{bytesOf, fieldBytes, fieldsIn, width, rowBytes, rowsBytes, rowIn, rowsIn}
 use Rattle.row.specs.Details.{millionths}
 use Rattle.row.specs.steps.Holding.{Held}
 use Rattle.row.proofs.FieldLaws.{un-le}

@@ -10,9 +10,9 @@ use borrow.Author.Tests.{le-leb, lt-leb}
 use lib.ListN.{length, take, drop, take-append-drop, length-append, length-take, length-drop}
 use lib.Seq.{take-append-le, drop-append-le, take-at, drop-at, take-append-add, drop-append-add, sets, sets-eq}
 use Rattle.row.specs.Field.{le, un, fieldLimit}
-use Rattle.row.specs.Pouring.{bytesOf}
-use Rattle.row.specs.Row.{atStart, atLine, atP, fieldBytes, width, rowBytes, rowsBytes, pour, feeds, lined}
-use Rattle.row.specs.steps.Sweep.{LineOf, lineSet, linesSet}
+use Rattle.row.specs.Row.{bytesOf, atStart, atLine, atP, fieldBytes, width, rowBytes, rowsBytes, feeds}
+use Rattle.row.specs.steps.Pouring.{pour}
+use Rattle.row.specs.steps.Sweep.{lined, LineOf, lineSet, linesSet}
 use Rattle.row.specs.declared.lines.Line.{Line}
 use Rattle.row.specs.declared.table.Row.{Row}
 use Rattle.row.proofs.FieldLaws.{un-le}

@@ -8,7 +8,8 @@ use borrow.Rule.Slice.PartMut.{putMid}
 use lib.ListN.{length, take, drop, length-take, length-drop}
 use lib.Seq.{sets, sets-eq}
 use Rattle.row.specs.Field.{le, un, fieldAt}
-use Rattle.row.specs.Row.{atKind, atStart, atEnd, atLine, atP, atQ, atValue, fieldsWidth, fieldBytes, fieldsIn, width, rowBytes, rowIn, room, pour, placeOf, pourAt}
+use Rattle.row.specs.Row.{atKind, atStart, atEnd, atLine, atP, atQ, atValue, fieldsWidth, fieldBytes, fieldsIn, width, rowBytes, rowIn, room}
+use Rattle.row.specs.steps.Pouring.{pour, placeOf, pourAt}
 use Rattle.row.specs.declared.table.Row.{Row}
 use Rattle.row.proofs.PouredLaws.{poured-lent, poured-rest}
 use Rattle.row.proofs.PourLaws.{pour-short, pour-fits, pour-none, pourAt-full, head-last}

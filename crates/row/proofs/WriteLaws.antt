@@ -13,10 +13,10 @@ use Rattle.decimal.specs.declared.Value.{Value}
 use Rattle.decimal.specs.declared.Value.the-variants.{Known, Refused}
 use Rattle.amount.specs.declared.detail.Detail.{Detail}
 use Rattle.row.specs.Field.{le, fieldLimit}
-use Rattle.row.specs.Pouring.{poured, pouredAt}
-use Rattle.row.specs.Row.{rowOf, rowBytes, room, pourAt}
-use Rattle.row.specs.Details.{spanned, millionths, laid, valuePlace}
-use Rattle.row.specs.steps.Writing.{noted}
+use Rattle.row.specs.steps.Pouring.{poured, pouredAt, pourAt}
+use Rattle.row.specs.Row.{rowOf, rowBytes, room}
+use Rattle.row.specs.Details.{spanned, millionths, valuePlace}
+use Rattle.row.specs.steps.Writing.{laid, noted}
 use Rattle.row.specs.declared.table.Row.{Row}
 use Rattle.row.specs.declared.writer.Out.{Out}
 use Rattle.row.proofs.SameBytes.{mod-four, bytes-same}

@@ -1,5 +1,4 @@
 pub mod Field
-pub mod Pouring
 pub mod Row
 pub mod Work
 pub mod Details

@@ -1,4 +1,4 @@
--- The row table: a row, its bytes, and what rows written from the front leave of a table.
+-- The row table: a row, its bytes, room, and line feeds.
 use Prim.Native.Nat.{ℕ, zero, suc, _+_, _/_}
 use Prim.Native.Char.{code}
 use mathlib.Core.Bool.{cond}
@@ -9,7 +9,6 @@ use lib.ListN.{length, take, drop}
 use Rattle.decimal.specs.Exact.{twosOf}
 use Rattle.row.specs.declared.table.Row.{Row}
 use Rattle.row.specs.Field.{le, un}
-use Rattle.row.specs.Pouring.{bytesOf, placeAt, poured, pouredAt}
 
 -- a row of document 01: kind, start, end, line, p, q, value
 unfoldable pub rowOf : ℕ → ℕ → ℕ → ℕ → ℕ → ℕ → ℤ → Row
@@ -68,6 +67,11 @@ width = fieldsWidth
 unfoldable pub rowBytes : Row → List ℕ
 rowBytes r = fieldBytes r
 
+-- the bytes of things, which f gives, one after the other
+unfoldable pub bytesOf : {A : Type 0} → (A → List ℕ) → List A → List ℕ
+bytesOf f [] = []
+bytesOf f (x ∷ xs) = f x ++ bytesOf f xs
+
 abbrev pub rowsBytes : List Row → List ℕ
 rowsBytes rs = bytesOf rowBytes rs
 
@@ -86,23 +90,9 @@ rowsIn (suc k) t = rowIn t ∷ rowsIn k (drop width t)
 abbrev pub room : List ℕ → ℕ
 room t = length t / width
 
--- the table t after the rows were written from its front, or from row n on
-abbrev pub pour : List Row → List ℕ → List ℕ
-pour rs t = poured width rowBytes rs t
-
-abbrev pub placeOf : ℕ → ℕ → ℕ
-placeOf n size = placeAt width n size
-
-abbrev pub pourAt : ℕ → List Row → List ℕ → List ℕ
-pourAt n rs t = pouredAt width rowBytes n rs t
-
 -- ---- lines
 
 -- the line feeds of a text
 unfoldable pub feeds : List ℕ → ℕ
 feeds [] = 0
 feeds (b ∷ s) = cond (eqb b (code "\n")) 1 0 + feeds s
-
--- a row with its line: one plus the line feeds before its start
-unfoldable pub lined : List ℕ → Row → Row
-lined s r = record { kind = r .kind; start = r .start; end = r .end; line = 1 + feeds (take (r .start) s); p = r .p; q = r .q; bits = r .bits }

@@ -6,7 +6,8 @@ ghost use Prim.Native.Nat.{_/_, _≤_};
 ghost use lib.Dec.{ltb};
 ghost use lib.ListN.{length, drop};
 ghost use Rattle.row.specs.Field.{fieldAt};
-ghost use Rattle.row.specs.Row.{fieldsWidth, fieldBytes, fieldsIn, width, rowIn, placeOf, pour, pourAt};
+ghost use Rattle.row.specs.Row.{fieldsWidth, fieldBytes, fieldsIn, width, rowIn};
+ghost use Rattle.row.specs.steps.Pouring.{placeOf, pour, pourAt};
 
 pub struct Row {
     pub kind: usize,

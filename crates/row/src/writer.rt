@@ -11,9 +11,10 @@ ghost use mathlib.Core.List.{[], _∷_, map};
 ghost use Prim.Native.Nat.{_+_, _≤_};
 ghost use Rattle.decimal.specs.Exact.{twosOf};
 ghost use Rattle.text.specs.Permitted.{sizeLimit};
-ghost use Rattle.row.specs.Row.{rowBytes, pourAt};
-ghost use Rattle.row.specs.Details.{spanned, millionths, laid, valuePlace};
-ghost use Rattle.row.specs.steps.Writing.{noted, outs, someRow, Room, Writable};
+ghost use Rattle.row.specs.Row.{rowBytes};
+ghost use Rattle.row.specs.steps.Pouring.{pourAt};
+ghost use Rattle.row.specs.Details.{spanned, millionths, valuePlace};
+ghost use Rattle.row.specs.steps.Writing.{laid, noted, outs, someRow, Room, Writable};
 
 // So many rows are there; one plus the number of the first refused value, 0 for none, and its place.
 pub struct Out {

@@ -14,7 +14,8 @@ use Rattle.row.specs.Work.{cleared}
 use Rattle.row.specs.Row.{fieldBytes, fieldsIn}
 use Rattle.row.proofs.PouredLaws.{poured-all, length-poured}
 use Rattle.row.proofs.PourLaws.{length-fieldBytes}
-use Rattle.order.specs.Records.{recordWidth, recordRoom, recordsBytes, putRecords}
+use Rattle.order.specs.Records.{recordWidth, recordRoom, recordsBytes}
+use Rattle.order.specs.steps.Putting.{putRecords}
 use Rattle.ledger.specs.Plain.{Reading, accepted, plain}
 use Rattle.ledger.specs.steps.Scan.{scanAnswer}
 use Rattle.ledger.specs.declared.scan.Scan.{Scan}

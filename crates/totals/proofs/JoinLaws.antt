@@ -9,12 +9,11 @@ use lib.Dec.{leb}
 use lib.ListN.{length, drop, length-map}
 use Rattle.row.specs.declared.table.Row.{Row}
 use Rattle.row.specs.Work.{cleared}
-use Rattle.row.specs.Row.{fieldBytes, fieldsIn}
+use Rattle.row.specs.Row.{fieldBytes, fieldsIn, bytesOf}
 use Rattle.row.specs.steps.Holding.{Held}
 use Rattle.row.proofs.PouredLaws.{length-bytesOf}
 use Rattle.row.proofs.PourLaws.{length-fieldBytes}
 use Rattle.row.proofs.ReadBack.{fields-back}
-use Rattle.row.specs.Pouring.{bytesOf}
 use Rattle.order.specs.Records.{recordWidth, recordRoom, recordsBytes}
 use Rattle.order.specs.Order.{said, saidIn}
 use Rattle.order.specs.Sorted.{recordsOf, joined, sortedBytes}

@@ -10,7 +10,8 @@ use borrow.Author.Tests.{le-leb, lt-leb}
 use lib.ListN.{length, drop, length-map}
 use Rattle.row.specs.Row.{fieldBytes}
 use Rattle.row.proofs.PouredLaws.{poured-all}
-use Rattle.order.specs.Records.{recordWidth, recordRoom, recordsBytes, putRecords}
+use Rattle.order.specs.Records.{recordWidth, recordRoom, recordsBytes}
+use Rattle.order.specs.steps.Putting.{putRecords}
 use Rattle.order.specs.Order.{saidIn, by}
 use Rattle.order.specs.Sorted.{recordsOf}
 use Rattle.order.specs.Groups.{those, alike, heads, Item, itemOf, listed, counted}

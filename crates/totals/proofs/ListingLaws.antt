@@ -11,7 +11,8 @@ use Rattle.row.specs.Details.{millionths}
 use Rattle.row.specs.Row.{fieldBytes, fieldsIn}
 use Rattle.row.proofs.PouredLaws.{poured-none, poured-append, length-pouredAt}
 use Rattle.row.proofs.PourLaws.{length-fieldBytes}
-use Rattle.order.specs.Records.{recordWidth, recordRoom, putRecords, putRecordsAt}
+use Rattle.order.specs.Records.{recordWidth, recordRoom}
+use Rattle.order.specs.steps.Putting.{putRecords, putRecordsAt}
 use Rattle.order.specs.Order.{saidIn, by}
 use Rattle.order.specs.Sorted.{Ordered, recordAt, recordsFrom, recordsOf}
 use Rattle.order.specs.Sums.{summed}

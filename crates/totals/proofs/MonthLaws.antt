@@ -13,9 +13,10 @@ use Rattle.row.specs.steps.Holding.{Held}
 use Rattle.row.specs.Row.{fieldBytes}
 use Rattle.row.proofs.PouredLaws.{poured-append, length-poured}
 use Rattle.row.proofs.PourLaws.{length-fieldBytes}
-use Rattle.row.specs.Pouring.{poured}
+use Rattle.row.specs.steps.Pouring.{poured}
 use Rattle.ledger.proofs.ReadLaws.{plain-reads}
-use Rattle.order.specs.Records.{recordWidth, putRecords, putRecordsAt}
+use Rattle.order.specs.Records.{recordWidth}
+use Rattle.order.specs.steps.Putting.{putRecords, putRecordsAt}
 use Rattle.walk.specs.declared.step.Cursor.{Cursor}
 use Rattle.walk.specs.declared.step.Turn.{Turn}
 use Rattle.walk.specs.Postings.{dated, postings}

@@ -20,9 +20,8 @@ use Rattle.text.proofs.Steps.{getD-past}
 use Rattle.text.proofs.StringSame.{string-ahead, string-ends}
 use Rattle.amount.specs.Details.{Rows, span}
 use Rattle.amount.specs.declared.detail.Detail.{Detail}
-use Rattle.row.specs.Row.{pourAt}
-use Rattle.row.specs.Details.{laid}
-use Rattle.row.specs.steps.Writing.{noted, Did}
+use Rattle.row.specs.steps.Pouring.{pourAt}
+use Rattle.row.specs.steps.Writing.{laid, noted, Did}
 use Rattle.row.specs.declared.writer.Out.{Out}
 use Rattle.row.specs.declared.writer.Ran.{Ran}
 use Rattle.row.proofs.OutLaws.{noted-room, wrote-none, wrote-one, wrote-then, poured-none}

@@ -22,9 +22,8 @@ ghost use mathlib.Core.List.{[], _∷_};
 ghost use lib.ListN.{length};
 ghost use Rattle.amount.specs.Details.{span};
 ghost use Rattle.amount.specs.steps.Answers.{oneOf};
-ghost use Rattle.row.specs.Row.{pourAt};
-ghost use Rattle.row.specs.Details.{laid};
-ghost use Rattle.row.specs.steps.Writing.{noted, Did, Writable, Readable};
+ghost use Rattle.row.specs.steps.Pouring.{pourAt};
+ghost use Rattle.row.specs.steps.Writing.{laid, noted, Did, Writable, Readable};
 ghost use Rattle.transaction.specs.Transaction.{opening, mark, marks, transaction};
 ghost use Rattle.transaction.specs.steps.Heads.{txnRan, linkMark, gapString, secondText, textsOf, markedOf, textedOf, headOf};
 

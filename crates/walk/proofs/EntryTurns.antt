@@ -25,8 +25,7 @@ use Rattle.row.specs.declared.table.Row.{Row}
 use Rattle.row.specs.declared.writer.Out.{Out}
 use Rattle.row.specs.declared.writer.Ran.{Ran}
 use Rattle.row.specs.Row.{rowOf, feeds}
-use Rattle.row.specs.Details.{laid}
-use Rattle.row.specs.steps.Writing.{Did}
+use Rattle.row.specs.steps.Writing.{laid, Did}
 use Rattle.row.proofs.PourLaws.{le-or-lt}
 use Rattle.row.proofs.DidLaws.{was-read, was-miss, was-hard}
 use Rattle.posting.specs.Postings.{body}

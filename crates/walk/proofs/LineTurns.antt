@@ -14,9 +14,9 @@ use Rattle.amount.specs.Details.{Rows}
 use Rattle.row.specs.declared.table.Row.{Row}
 use Rattle.row.specs.declared.writer.Out.{Out}
 use Rattle.row.specs.declared.writer.Ran.{Ran}
-use Rattle.row.specs.Details.{laid}
-use Rattle.row.specs.Row.{width, pourAt}
-use Rattle.row.specs.steps.Writing.{Did, Poured, outs}
+use Rattle.row.specs.steps.Writing.{laid, Did, Poured, outs}
+use Rattle.row.specs.Row.{width}
+use Rattle.row.specs.steps.Pouring.{pourAt}
 use Rattle.row.specs.steps.Holding.{Held}
 use Rattle.row.proofs.OutLaws.{rows-outs}
 use Rattle.row.proofs.DidLaws.{was-read, was-miss, was-hard}

@@ -10,7 +10,7 @@ use Rattle.amount.specs.declared.detail.Detail.{Detail}
 use Rattle.amount.proofs.RowCounts.{anyKinds, postingKind, Rising}
 use Rattle.row.specs.declared.table.Row.{Row}
 use Rattle.row.specs.Row.{rowOf}
-use Rattle.row.specs.Details.{laid}
+use Rattle.row.specs.steps.Writing.{laid}
 use Rattle.posting.proofs.StepRows.{Others}
 use Rattle.entry.specs.Forms.{Form}
 use Rattle.text.specs.Answer.{To}

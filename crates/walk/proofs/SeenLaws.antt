@@ -12,8 +12,10 @@ use Rattle.decimal.specs.Exact.{wordLimit}
 use Rattle.text.specs.Permitted.{sizeLimit}
 use Rattle.amount.specs.declared.detail.Detail.{Detail}
 use Rattle.row.specs.declared.table.Row.{Row}
-use Rattle.row.specs.Row.{rowOf, rowBytes, rowIn, width, pour, pourAt}
-use Rattle.row.specs.Details.{spanned, laid}
+use Rattle.row.specs.Row.{rowOf, rowBytes, rowIn, width}
+use Rattle.row.specs.steps.Pouring.{pour, pourAt}
+use Rattle.row.specs.Details.{spanned}
+use Rattle.row.specs.steps.Writing.{laid}
 use Rattle.row.proofs.PourLaws.{pour-fits, pourAt-zero, length-rowBytes}
 use Rattle.row.proofs.ReadBack.{wrapped, row-in, four-back, eight-back, bits-low}
 use Rattle.row.specs.steps.Holding.{Held}

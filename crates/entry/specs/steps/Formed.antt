@@ -11,8 +11,7 @@ use Rattle.amount.specs.Details.{Rows}
 use Rattle.amount.specs.Amounts.{hardCurrency, priceOf}
 use Rattle.row.specs.declared.writer.Out.{Out}
 use Rattle.row.specs.declared.writer.Ran.{Ran}
-use Rattle.row.specs.Details.{laid}
-use Rattle.row.specs.steps.Writing.{outs, Poured}
+use Rattle.row.specs.steps.Writing.{laid, outs, Poured}
 use Rattle.content.specs.Contents.{hardAccount, balanceOf, openOf, padOf, eventOf}
 use Rattle.entry.specs.Directive.{keyword}
 use Rattle.entry.specs.Forms.{Form, asEntry}

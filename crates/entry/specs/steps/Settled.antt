@@ -8,9 +8,9 @@ use lib.ListN.{length}
 use Rattle.text.specs.Answer.{Ans, To, Miss, Hard}
 use Rattle.row.specs.declared.table.Row.{Row}
 use Rattle.row.specs.declared.writer.Out.{Out}
-use Rattle.row.specs.Row.{rowOf, pour}
-use Rattle.row.specs.Details.{laid}
-use Rattle.row.specs.steps.Writing.{Poured}
+use Rattle.row.specs.Row.{rowOf}
+use Rattle.row.specs.steps.Pouring.{pour}
+use Rattle.row.specs.steps.Writing.{laid, Poured}
 use Rattle.entry.specs.Forms.{Form, formOf}
 use Rattle.entry.specs.Entry.{Reads, got, refuse}
 use Rattle.entry.specs.declared.entry.Entry.{Entry}

@@ -8,6 +8,7 @@ use lib.ListN.{length, take, drop}
 use Rattle.text.specs.Bytes.{inLine}
 use Rattle.text.specs.Run.{runTo}
 use Rattle.row.specs.declared.lines.Line.{Line}
+use Rattle.row.specs.declared.table.Row.{Row}
 use Rattle.row.specs.Field.{le, un}
 use Rattle.row.specs.Row.{atStart, atLine, atP, width, feeds}
 
@@ -23,3 +24,7 @@ lineSet s r = take atLine r ++ (le 4 (1 + feeds (take (un (take 4 (drop atStart 
 unfoldable pub linesSet : List ℕ → ℕ → List ℕ → List ℕ
 linesSet s zero t = t
 linesSet s (suc n) t = cond (leb width (length t)) (lineSet s (take width t) ++ linesSet s n (drop width t)) t
+
+-- a row with its line: one plus the line feeds before its start
+unfoldable pub lined : List ℕ → Row → Row
+lined s r = record { kind = r .kind; start = r .start; end = r .end; line = 1 + feeds (take (r .start) s); p = r .p; q = r .q; bits = r .bits }

@@ -14,19 +14,26 @@ use Rattle.amount.specs.Details.{Rows}
 use Rattle.row.specs.declared.writer.Out.{Out}
 use Rattle.row.specs.declared.writer.Ran.{Ran}
 use Rattle.row.specs.declared.table.Row.{Row}
-use Rattle.row.specs.Row.{pourAt}
-use Rattle.row.specs.Details.{laid, valuePlace}
+use Rattle.row.specs.steps.Pouring.{pourAt}
+use Rattle.row.specs.Row.{rowOf}
+use Rattle.row.specs.Details.{spanned, millionths, valuePlace}
+
+-- the row of a detail of an entry that starts at a place; lines are set when all rows are there
+unfoldable pub laid : ℕ → Detail → Row
+laid base d =
+    rowOf (d .kind) (base + d .start) (base + d .end) 0 (cond (spanned (d .kind)) (base + d .p) (d .p)) (cond (spanned (d .kind)) (base + d .q) (d .q))
+    (millionths (d .value))
 
 -- one row more
-abbrev pub more : Out → Out
-more o = record { rows = o .rows + 1; bad = o .bad; place = o .place }
+abbrev pub oneMore : Out → Out
+oneMore o = record { rows = o .rows + 1; bad = o .bad; place = o .place }
 
 -- the first refused value is kept: `bad` is one plus its number, 0 for none
 unfoldable pub noted : Out → Detail → Out
 noted o d =
     elim (d .value) [
-      | Known x ↦ more o
-      | Refused n ↦ cond (eqb (o .bad) 0) (record { rows = o .rows + 1; bad = n + 1; place = valuePlace d }) (more o)
+      | Known x ↦ oneMore o
+      | Refused n ↦ cond (eqb (o .bad) 0) (record { rows = o .rows + 1; bad = n + 1; place = valuePlace d }) (oneMore o)
     ]
 
 -- a row, if it is one

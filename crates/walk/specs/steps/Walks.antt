@@ -11,7 +11,7 @@ use Rattle.amount.specs.declared.detail.Detail.{Detail}
 use Rattle.amount.specs.Details.{Rows}
 use Rattle.row.specs.declared.table.Row.{Row}
 use Rattle.row.specs.Row.{rowIn, width}
-use Rattle.row.specs.Details.{laid}
+use Rattle.row.specs.steps.Writing.{laid}
 use Rattle.row.specs.steps.Holding.{Held}
 use Rattle.posting.specs.Postings.{body}
 use Rattle.ledger.specs.Plain.{accepted, readFrom}
