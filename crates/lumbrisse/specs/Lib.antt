@@ -1,5 +1,6 @@
 pub mod Numbers
 pub mod Promises
+pub mod Demand1
 pub mod Packets
 pub mod Edits
 pub mod Asked

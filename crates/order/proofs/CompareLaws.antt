@@ -15,7 +15,8 @@ use Rattle.order.specs.Records.{recordWidth}
 use Rattle.access.specs.Spans.{spanText}
 use Rattle.order.specs.declared.compare.Order.{Order}
 use Rattle.order.specs.declared.compare.Order.the-variants.{Before, Same, After}
-use Rattle.order.specs.Order.{_next_, numbers, texts, said, saidIn, orderOf}
+use Rattle.order.specs.Order.{_next_, numbers, texts, said, orderOf}
+use Rattle.order.specs.steps.Buffers.{saidIn}
 use Rattle.order.proofs.Orders.{numbers-less, numbers-same, numbers-more}
 
 -- ---- texts: r is the order of what is left from i on

@@ -2,12 +2,12 @@
 use Prim.Native.Nat.{ℕ, zero, suc}
 use mathlib.Core.Path.{_≡_, refl, sym, ap, _∙_}
 use mathlib.Core.Bool.{Bool, true, false, cond, _&&_, not}
-use mathlib.Core.List.{List, [], _∷_, _++_, map, List·Permᴰ, Permᴰ·refl}
-use mathlib.Core.List.{List·Permᴰ·nil, List·Permᴰ·cons, List·Permᴰ·swap, List·Permᴰ·trans}
+use mathlib.Core.List.{List, [], _∷_, _++_, map, List·Permᴰ, Permᴰ·refl, List·Permᴰ·nil, List·Permᴰ·cons, List·Permᴰ·swap, List·Permᴰ·trans}
 use lib.IntN.{ℤ, _+ℤ_, +ℤ-assoc, +ℤ-comm}
 use lib.ListN.{take, drop}
 use Rattle.text.proofs.TestLaws.{absurd-bool, and-left, and-right}
-use Rattle.order.specs.Sorted.{sorted, Leads, Ordered}
+use Rattle.order.specs.Sorted.{sorted}
+use Rattle.order.specs.steps.Buffers.{Leads, Ordered}
 use Rattle.order.specs.Sums.{sumOf}
 use Rattle.order.specs.Groups.{those, alike, heads}
 use Rattle.order.specs.steps.Runs.{leading}

@@ -9,13 +9,14 @@ use borrow.Author.Tests.{le-leb, lt-leb}
 use lib.Dec.{leb}
 use lib.ListN.{length, take, drop, take-append-drop, length-append, length-drop, drop-of-length-le}
 use lib.Seq.{take-at, drop-at, drop-drop, take-all, paste}
-use Rattle.order.specs.Order.{saidIn, by}
-use Rattle.order.specs.Sorted.{insert, sorted, Ordered, recordsFrom, recordsOf, joined, sortedBytes}
+use Rattle.order.specs.Order.{by}
+use Rattle.order.specs.steps.Buffers.{saidIn, Ordered, recordsFrom, recordsOf, joined, sortedBytes, recordRoom}
+use Rattle.order.specs.Sorted.{insert, sorted}
 use Rattle.order.specs.steps.Merge.{merging}
 use Rattle.order.proofs.Orders.{by-either, by-through}
 use Rattle.order.proofs.SortLaws.{perm-length, sorted-perm, sorted-ordered, sorted-halves}
 use Rattle.order.proofs.RecordLaws.{Wide, length-joined, joined-append, length-records, records-wide, joined-records, records-joined, sorted-wide}
-use Rattle.order.specs.Records.{recordWidth, recordRoom}
+use Rattle.order.specs.Records.{recordWidth}
 
 length-sorted : (s : List ℕ) (rs : List (List ℕ)) → length (sorted (by (saidIn s)) rs) ≡ length rs
 length-sorted s rs = perm-length (sorted-perm (by (saidIn s)) rs)

@@ -12,11 +12,11 @@ use lib.ListN.{length, getD, take, drop, set, take-append-drop, length-set, leng
 use lib.Seq.{getD-drop, drop-drop, take-add, paste, paste-zero, paste-suc, take-paste, drop-paste, length-paste}
 use Rattle.text.proofs.TestLaws.{absurd-bool}
 use Rattle.row.proofs.PourLaws.{le-or-lt}
-use Rattle.order.specs.Records.{recordWidth, recordRoom}
+use Rattle.order.specs.Records.{recordWidth}
+use Rattle.order.specs.steps.Buffers.{recordRoom, saidIn, recordAt, recordsFrom, joined}
 use Rattle.order.specs.declared.compare.Order.{Order}
 use Rattle.order.specs.declared.compare.Order.the-variants.{Before, Same, After}
-use Rattle.order.specs.Order.{saidIn, orderOf, upTo, mayPrecede, by}
-use Rattle.order.specs.Sorted.{recordAt, recordsFrom, joined}
+use Rattle.order.specs.Order.{orderOf, upTo, mayPrecede, by}
 use Rattle.order.specs.steps.Merge.{leftFirst, merging}
 use Rattle.order.proofs.SortLaws.{merge-left, merge-right, merge-none, merge-only}
 use Rattle.order.proofs.RecordLaws.{records-step, records-none}

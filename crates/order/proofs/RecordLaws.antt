@@ -12,9 +12,9 @@ use lib.Seq.{take-at, drop-at, take-add, drop-drop}
 use Rattle.row.specs.declared.table.Row.{Row}
 use Rattle.row.specs.Row.{fieldsWidth, fieldBytes}
 use Rattle.row.proofs.PouredLaws.{pouredAt-short, poured-lent}
-use Rattle.order.specs.Sorted.{insert, sorted, recordAt, recordsFrom, joined}
-use Rattle.order.specs.Records.{recordWidth, recordRoom}
-use Rattle.order.specs.steps.Putting.{putRecordsAt}
+use Rattle.order.specs.Sorted.{insert, sorted}
+use Rattle.order.specs.steps.Buffers.{recordAt, recordsFrom, joined, recordRoom, putRecordsAt}
+use Rattle.order.specs.Records.{recordWidth}
 
 -- each has a record's bytes
 abbrev pub Wide : List (List ℕ) → Type 0

@@ -13,12 +13,12 @@ use Rattle.decimal.specs.declared.Value.{Value}
 use Rattle.decimal.specs.declared.Value.the-variants.{Known, Refused}
 use Rattle.row.specs.declared.table.Row.{Row}
 use Rattle.row.specs.Row.{fieldsIn}
-use Rattle.order.specs.Records.{recordWidth, recordRoom}
+use Rattle.order.specs.Records.{recordWidth}
+use Rattle.order.specs.steps.Buffers.{recordRoom, saidIn, Ordered, recordAt, recordsFrom, recordsOf, joined}
 use Rattle.order.specs.declared.runs.Counted.{Counted}
 use Rattle.order.specs.declared.compare.Order.{Order}
 use Rattle.order.specs.declared.compare.Order.the-variants.{Before, Same, After}
-use Rattle.order.specs.Order.{said, saidIn, orderOf, by}
-use Rattle.order.specs.Sorted.{Ordered, recordAt, recordsFrom, recordsOf, joined}
+use Rattle.order.specs.Order.{said, orderOf, by}
 use Rattle.order.specs.Sums.{summed}
 use Rattle.order.specs.Groups.{those, alike, heads, itemOf, listed, isKnown, counted}
 use Rattle.order.specs.steps.Runs.{leading, runEnd}

@@ -2,11 +2,11 @@
 use Prim.Native.Nat.{suc}
 use mathlib.Core.Path.{_≡_, refl, sym, ap, _∙_}
 use mathlib.Core.Bool.{Bool, true, false, cond}
-use mathlib.Core.List.{List, [], _∷_, _++_, List·Permᴰ, Permᴰ·refl}
-use mathlib.Core.List.{List·Permᴰ·nil, List·Permᴰ·cons, List·Permᴰ·swap, List·Permᴰ·trans}
+use mathlib.Core.List.{List, [], _∷_, _++_, List·Permᴰ, Permᴰ·refl, List·Permᴰ·nil, List·Permᴰ·cons, List·Permᴰ·swap, List·Permᴰ·trans}
 use lib.ListN.{length}
 use Rattle.text.proofs.TestLaws.{absurd-bool}
-use Rattle.order.specs.Sorted.{insert, sorted, Leads, Ordered}
+use Rattle.order.specs.Sorted.{insert, sorted}
+use Rattle.order.specs.steps.Buffers.{Leads, Ordered}
 use Rattle.order.specs.Groups.{those}
 use Rattle.order.specs.steps.Merge.{merge}
 

@@ -16,9 +16,8 @@ use Rattle.decimal.proofs.Laws.{exact-large, ones-is}
 use Rattle.decimal.proofs.Whole.{total-met}
 use Rattle.row.specs.declared.table.Row.{Row}
 use Rattle.row.specs.Row.{fieldsIn}
-use Rattle.order.specs.Records.{recordRoom}
+use Rattle.order.specs.steps.Buffers.{recordRoom, recordAt, recordsFrom, recordsOf}
 use Rattle.order.specs.declared.sum.Wide.{Wide}
-use Rattle.order.specs.Sorted.{recordAt, recordsFrom, recordsOf}
 use Rattle.order.specs.Sums.{wholeFrom, sumOf, summed}
 use Rattle.order.specs.steps.Wide.{size, held}
 use Rattle.order.proofs.RecordLaws.{records-step, records-none}

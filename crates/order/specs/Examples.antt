@@ -12,7 +12,8 @@ use Rattle.row.specs.Row.{rowOf, fieldBytes, fieldsIn}
 use Rattle.access.specs.Spans.{goodSpan, spanText}
 use Rattle.order.specs.declared.compare.Order.{Order}
 use Rattle.order.specs.declared.compare.Order.the-variants.{Before, Same, After}
-use Rattle.order.specs.Order.{_next_, numbers, texts, said, saidIn, orderOf, upTo, mayPrecede}
+use Rattle.order.specs.Order.{_next_, numbers, texts, said, orderOf, upTo, mayPrecede}
+use Rattle.order.specs.steps.Buffers.{saidIn}
 use Rattle.order.specs.Sorted.{insert, sorted}
 use Rattle.order.specs.Sums.{wholeFrom, sumOf, summed}
 use Rattle.order.specs.Groups.{those, alike, heads, itemOf, listed, items}

@@ -6,7 +6,6 @@ use mathlib.Core.List.{List, [], _∷_}
 use lib.Dec.{ltb}
 use lib.IntN.{ℤ}
 use Rattle.row.specs.declared.table.Row.{Row}
-use Rattle.row.specs.Row.{fieldsIn}
 use Rattle.access.specs.Spans.{spanText}
 use Rattle.order.specs.declared.compare.Order.{Order}
 use Rattle.order.specs.declared.compare.Order.the-variants.{Before, Same, After}
@@ -45,10 +44,6 @@ said s r =
       currency = spanText s (r .p) (r .q);
       value = wholeFrom (r .bits);
     }
-
--- the same of a record's bytes
-abbrev pub saidIn : List ℕ → List ℕ → Said
-saidIn s b = said s (fieldsIn b)
 
 -- the value does not count
 unfoldable pub orderOf : Said → Said → Order

@@ -1,16 +1,11 @@
 -- Records and items of M-108: the fields of a row of document 01, in a width of their own.
-use Prim.Native.Nat.{ℕ, _/_}
+use Prim.Native.Nat.{ℕ}
 use mathlib.Core.List.{List}
-use lib.ListN.{length}
 use Rattle.row.specs.declared.table.Row.{Row}
 use Rattle.row.specs.Row.{bytesOf, fieldsWidth, fieldBytes}
 
 abbrev pub recordWidth : ℕ
 recordWidth = fieldsWidth
-
--- how many a buffer holds
-abbrev pub recordRoom : List ℕ → ℕ
-recordRoom t = length t / recordWidth
 
 -- the bytes of rows as records
 abbrev pub recordsBytes : List Row → List ℕ

@@ -10,8 +10,8 @@ ghost use lib.ListN.{length, drop};
 ghost use Rattle.row.specs.Row.{fieldsIn};
 ghost use Rattle.order.specs.Records.{recordWidth};
 ghost use Rattle.access.specs.Spans.{spanText};
-ghost use Rattle.order.specs.Order.{texts, saidIn, orderOf};
-ghost use Rattle.order.specs.Sorted.{recordAt};
+ghost use Rattle.order.specs.Order.{texts, orderOf};
+ghost use Rattle.order.specs.steps.Buffers.{saidIn, recordAt};
 
 pub enum Order {
     Before,

@@ -3,7 +3,7 @@ use row::table;
 use row::table::Row;
 ghost use mathlib.Core.Path.{_≡_};
 ghost use mathlib.Core.List.{[], _∷_};
-ghost use Rattle.order.specs.steps.Putting.{putRecordsAt};
+ghost use Rattle.order.specs.steps.Buffers.{putRecordsAt};
 
 // A record's bytes.
 pub const RECORD: usize = table::FIELDS;

@@ -9,10 +9,9 @@ ghost use mathlib.Core.List.{map};
 ghost use Prim.Native.Nat.{_-_, _/_, _<_, _≤_};
 ghost use lib.ListN.{length};
 ghost use Rattle.row.specs.Row.{fieldsIn};
-ghost use Rattle.order.specs.Records.{recordRoom};
-ghost use Rattle.order.specs.Sorted.{Ordered, recordsFrom, recordsOf};
+ghost use Rattle.order.specs.steps.Buffers.{recordRoom, Ordered, recordsFrom, recordsOf, saidIn};
 ghost use Rattle.order.specs.Sums.{wholeFrom, summed};
-ghost use Rattle.order.specs.Order.{saidIn, by};
+ghost use Rattle.order.specs.Order.{by};
 ghost use Rattle.order.specs.Groups.{listed, counted};
 ghost use Rattle.order.specs.steps.Runs.{runEnd};
 

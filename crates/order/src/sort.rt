@@ -9,9 +9,9 @@ ghost use Prim.Native.Nat.{_+_, _*_, _/_, _≤_};
 ghost use lib.Dec.{leb};
 ghost use lib.ListN.{length, drop};
 ghost use lib.Seq.{paste};
-ghost use Rattle.order.specs.Sorted.{sortedBytes};
+ghost use Rattle.order.specs.steps.Buffers.{sortedBytes, recordRoom};
 ghost use Rattle.order.specs.steps.Merge.{leftFirst, merging};
-ghost use Rattle.order.specs.Records.{recordWidth, recordRoom};
+ghost use Rattle.order.specs.Records.{recordWidth};
 
 // So many bytes, from i on, over those from k on.
 fn copy(from: &[u8], i: usize, to: &mut [u8], k: usize, count: usize)

@@ -7,7 +7,7 @@ ghost use mathlib.Core.List.{map};
 ghost use Prim.Native.Nat.{_+_, _≤_};
 ghost use Rattle.decimal.specs.Exact.{exactly};
 ghost use Rattle.row.specs.Row.{fieldsIn};
-ghost use Rattle.order.specs.Sorted.{recordsOf};
+ghost use Rattle.order.specs.steps.Buffers.{recordsOf};
 ghost use Rattle.order.specs.Sums.{wholeFrom, summed};
 ghost use Rattle.order.specs.steps.Wide.{size, held};
 

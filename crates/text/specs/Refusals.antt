@@ -1,5 +1,8 @@
--- The numbers of the refusals that are met while an entry is read.
-use Prim.Native.Nat.{ℕ}
+-- The numbers of the refusals that are met while an entry is read, and what is said of a call's refusal.
+use Prim.Native.Nat.{ℕ, _≤_}
+use mathlib.Core.Path.{_≡_}
+use mathlib.Core.List.{List}
+use Rattle.text.specs.Every.{OneOf}
 
 -- a group opens inside 32 open ones
 abbrev pub deepNumber : ℕ
@@ -16,3 +19,9 @@ wordGapNumber = requiredNumber
 -- an account has no second part
 abbrev pub secondPartNumber : ℕ
 secondPartNumber = requiredNumber
+
+-- number n at place p, of a text of `size` bytes: n is one of the call's list, p stands within the text, and is 0 for 1
+pub record Refusal (list : List ℕ) (size n p : ℕ) : Type 0 where
+  pub listed : OneOf list n
+  pub within : p ≤ size
+  pub front : n ≡ 1 → p ≡ 0

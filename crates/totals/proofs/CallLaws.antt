@@ -14,14 +14,13 @@ use Rattle.row.specs.Work.{cleared}
 use Rattle.row.specs.Row.{fieldBytes, fieldsIn}
 use Rattle.row.proofs.PouredLaws.{poured-all, length-poured}
 use Rattle.row.proofs.PourLaws.{length-fieldBytes}
-use Rattle.order.specs.Records.{recordWidth, recordRoom, recordsBytes}
-use Rattle.order.specs.steps.Putting.{putRecords}
+use Rattle.order.specs.Records.{recordWidth, recordsBytes}
+use Rattle.order.specs.steps.Buffers.{recordRoom, putRecords, saidIn, Ordered, recordsOf, sortedBytes}
 use Rattle.ledger.specs.Plain.{Reading, accepted, plain}
 use Rattle.ledger.specs.steps.Scan.{scanAnswer}
 use Rattle.ledger.specs.declared.scan.Scan.{Scan}
 use Rattle.ledger.proofs.ReadLaws.{whole-reads, stopped-denies}
-use Rattle.order.specs.Order.{said, saidIn, by}
-use Rattle.order.specs.Sorted.{Ordered, recordsOf, sortedBytes}
+use Rattle.order.specs.Order.{said, by}
 use Rattle.order.specs.Groups.{listed, items, counted}
 use Rattle.order.proofs.HalfLaws.{bytes-ordered}
 use Rattle.order.proofs.RunLaws.{placeIn}

@@ -14,9 +14,9 @@ use Rattle.row.specs.steps.Holding.{Held}
 use Rattle.row.proofs.PouredLaws.{length-bytesOf}
 use Rattle.row.proofs.PourLaws.{length-fieldBytes}
 use Rattle.row.proofs.ReadBack.{fields-back}
-use Rattle.order.specs.Records.{recordWidth, recordRoom, recordsBytes}
-use Rattle.order.specs.Order.{said, saidIn}
-use Rattle.order.specs.Sorted.{recordsOf, joined, sortedBytes}
+use Rattle.order.specs.Records.{recordWidth, recordsBytes}
+use Rattle.order.specs.steps.Buffers.{recordRoom, saidIn, recordsOf, joined, sortedBytes}
+use Rattle.order.specs.Order.{said}
 use Rattle.order.specs.Groups.{Item, listed, items, isKnown, counted}
 use Rattle.order.specs.declared.runs.Counted.{Counted}
 use Rattle.order.proofs.RecordLaws.{Wide, records-joined}

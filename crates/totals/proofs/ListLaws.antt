@@ -10,10 +10,9 @@ use borrow.Author.Tests.{le-leb, lt-leb}
 use lib.ListN.{length, drop, length-map}
 use Rattle.row.specs.Row.{fieldBytes}
 use Rattle.row.proofs.PouredLaws.{poured-all}
-use Rattle.order.specs.Records.{recordWidth, recordRoom, recordsBytes}
-use Rattle.order.specs.steps.Putting.{putRecords}
-use Rattle.order.specs.Order.{saidIn, by}
-use Rattle.order.specs.Sorted.{recordsOf}
+use Rattle.order.specs.Records.{recordWidth, recordsBytes}
+use Rattle.order.specs.steps.Buffers.{recordRoom, putRecords, saidIn, recordsOf}
+use Rattle.order.specs.Order.{by}
 use Rattle.order.specs.Groups.{those, alike, heads, Item, itemOf, listed, counted}
 use Rattle.order.specs.declared.runs.Counted.{Counted}
 use Rattle.order.proofs.RecordLaws.{length-records}

@@ -11,10 +11,9 @@ use Rattle.row.specs.Details.{millionths}
 use Rattle.row.specs.Row.{fieldBytes, fieldsIn}
 use Rattle.row.proofs.PouredLaws.{poured-none, poured-append, length-pouredAt}
 use Rattle.row.proofs.PourLaws.{length-fieldBytes}
-use Rattle.order.specs.Records.{recordWidth, recordRoom}
-use Rattle.order.specs.steps.Putting.{putRecords, putRecordsAt}
-use Rattle.order.specs.Order.{saidIn, by}
-use Rattle.order.specs.Sorted.{Ordered, recordAt, recordsFrom, recordsOf}
+use Rattle.order.specs.Records.{recordWidth}
+use Rattle.order.specs.steps.Buffers.{recordRoom, putRecords, putRecordsAt, saidIn, Ordered, recordAt, recordsFrom, recordsOf}
+use Rattle.order.specs.Order.{by}
 use Rattle.order.specs.Sums.{summed}
 use Rattle.order.specs.Groups.{those, heads, Item, itemOf, listed}
 use Rattle.order.specs.steps.Runs.{runEnd}

@@ -16,7 +16,7 @@ use Rattle.row.proofs.PourLaws.{length-fieldBytes}
 use Rattle.row.specs.steps.Pouring.{poured}
 use Rattle.ledger.proofs.ReadLaws.{plain-reads}
 use Rattle.order.specs.Records.{recordWidth}
-use Rattle.order.specs.steps.Putting.{putRecords, putRecordsAt}
+use Rattle.order.specs.steps.Buffers.{putRecords, putRecordsAt}
 use Rattle.walk.specs.declared.step.Cursor.{Cursor}
 use Rattle.walk.specs.declared.step.Turn.{Turn}
 use Rattle.walk.specs.Postings.{dated, postings}

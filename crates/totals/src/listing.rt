@@ -10,10 +10,8 @@ ghost use mathlib.Core.Path.{_≡_};
 ghost use mathlib.Core.List.{map};
 ghost use Prim.Native.Nat.{_/_, _<_};
 ghost use lib.ListN.{length};
-ghost use Rattle.order.specs.Records.{recordRoom};
-ghost use Rattle.order.specs.steps.Putting.{putRecords};
-ghost use Rattle.order.specs.Sorted.{Ordered, recordAt, recordsOf};
-ghost use Rattle.order.specs.Order.{saidIn, by};
+ghost use Rattle.order.specs.steps.Buffers.{recordRoom, putRecords, Ordered, recordAt, recordsOf, saidIn};
+ghost use Rattle.order.specs.Order.{by};
 ghost use Rattle.order.specs.Groups.{listed};
 ghost use Rattle.totals.specs.steps.Listing.{headRow, itemRowIn};
 

@@ -7,7 +7,7 @@ ghost use mathlib.Core.Path.{_≡_};
 ghost use Prim.Native.Nat.{_≤_};
 ghost use lib.ListN.{length};
 ghost use Rattle.text.specs.Permitted.{sizeLimit};
-ghost use Rattle.order.specs.steps.Putting.{putRecords};
+ghost use Rattle.order.specs.steps.Buffers.{putRecords};
 ghost use Rattle.totals.specs.steps.Months.{Accepted, AllHeld, monthPostings};
 
 // How many they are.

@@ -3,8 +3,8 @@ use Prim.Native.Nat.{ℕ, _-_}
 use mathlib.Core.Bool.{Bool, true, false, cond}
 use mathlib.Core.List.{List, [], _∷_}
 use lib.Dec.{ltb}
-use Rattle.order.specs.Order.{saidIn, by}
-use Rattle.order.specs.Sorted.{recordAt, recordsFrom, joined}
+use Rattle.order.specs.Order.{by}
+use Rattle.order.specs.steps.Buffers.{saidIn, recordAt, recordsFrom, joined}
 
 unfoldable pub merge : {A : Type 0} → (A → A → Bool) → List A → List A → List A
 merge le [] [] = []

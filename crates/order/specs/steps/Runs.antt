@@ -3,10 +3,9 @@ use Prim.Native.Nat.{ℕ, suc, _+_, _-_}
 use mathlib.Core.Bool.{Bool, cond}
 use mathlib.Core.List.{List, [], _∷_}
 use lib.ListN.{length}
-use Rattle.order.specs.Order.{saidIn, by}
-use Rattle.order.specs.Sorted.{recordAt, recordsFrom}
+use Rattle.order.specs.Order.{by}
+use Rattle.order.specs.steps.Buffers.{saidIn, recordAt, recordsFrom, recordRoom}
 use Rattle.order.specs.Groups.{alike}
-use Rattle.order.specs.Records.{recordRoom}
 
 -- how many that are like x stand in front
 unfoldable pub leading : {A : Type 0} → (A → A → Bool) → A → List A → ℕ

@@ -1,10 +1,8 @@
 use Prim.Native.Nat.{_-_}
 use Rattle.row.specs.Row.{fieldsIn}
-use Rattle.order.specs.Order.{saidIn}
-use Rattle.order.specs.Sorted.{recordsOf}
+use Rattle.order.specs.steps.Buffers.{saidIn, recordsOf}
 use Rattle.order.specs.Groups.{listed, counted}
-use Rattle.order.proofs.RunLaws.{Pass}
-use Rattle.order.proofs.RunLaws.{pass-laws}
+use Rattle.order.proofs.RunLaws.{Pass, pass-laws}
 use borrow.Author.Needs.{needs}
 use Rattle.order.proofs.runs.count_runs.Statement.{statement}
 use Rattle.order.proofs.runs.count_runs.Tie as tie

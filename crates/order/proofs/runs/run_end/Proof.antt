@@ -1,14 +1,13 @@
 use Prim.Native.Nat.{_-_, _+_, _≤_, _<_}
 use mathlib.Core.Path.{_≡_}
 use lib.ListN.{length}
-use Rattle.order.specs.Order.{saidIn, by}
-use Rattle.order.specs.Sorted.{recordAt, recordsFrom}
+use Rattle.order.specs.Order.{by}
+use Rattle.order.specs.steps.Buffers.{saidIn, recordAt, recordsFrom, recordRoom}
 use Rattle.order.specs.steps.Runs.{leading, runEnd}
 use Rattle.order.proofs.RunLaws.{run-laws}
 use borrow.Author.Needs.{needs}
 use Rattle.order.proofs.runs.run_end.Statement.{statement}
 use Rattle.order.proofs.runs.run_end.Tie as tie
-use Rattle.order.specs.Records.{recordRoom}
 
 abbrev Inv-loop : tie.InvT-loop
 Inv-loop s t i n j₀ j =

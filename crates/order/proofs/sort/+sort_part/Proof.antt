@@ -1,10 +1,9 @@
-use Prim.Native.Nat.{_/_}
+use Prim.Native.Nat.{_/_, ℕ, _<_}
 use mathlib.Core.Path.{refl}
 use Rattle.order.proofs.HalfLaws.{few-sorted, halves}
 use native.Mathlib.Omega.{arith}
 use lib.ListN.{length}
 use borrow.Author.Needs.{needs}
-use Prim.Native.Nat.{ℕ, _<_}
 use borrow.Fn.Kinds.{In}
 use borrow.Fn.PlainCycle.{Measures, is, falls, and}
 use Rattle.order.proofs.sort.sort_part.Reads as sort-part
@@ -14,7 +13,7 @@ use Rattle.order.proofs.sort.copy.Reads as copy-reads
 use Rattle.order.proofs.sort.merge.Reads as merge-reads
 use Rattle.order.proofs.sort.+sort_part.{statement}
 use Rattle.order.proofs.sort.+sort_part.Tie.{close}
-use Rattle.order.specs.Records.{recordRoom}
+use Rattle.order.specs.steps.Buffers.{recordRoom}
 
 abbrev μ-sort-part : Measures 3 sort-part-kinds.ps ℕ
 μ-sort-part κs a = length (a .1 .0 .now)
