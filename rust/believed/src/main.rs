@@ -1,16 +1,17 @@
 //! Counts the lines of definitions that a customer must believe: those that the promises of the calls reach, by name,
 //! through `specs/`. A line is one of the definition itself: comments, blank lines and imports are not counted.
 //!
-//! `believed [CRATES]` reads the folder of the crates (`crates` where none is given) and writes, for the calls of
-//! document 01, for all calls, and for the demands' statements beside the promises: how many lines and definitions, and
-//! for the first the ten longest. Then it names the definitions in `specs/` that none of these reach, and fails if there
-//! are any that no statement reaches either.
+//! `believed [CRATES]` reads the folder of the crates (`crates` where none is given) and writes how many lines the calls
+//! of document 01 reach, these with the demands' statements, and all calls; for the first the share of each crate and
+//! the ten longest. Then it names the definitions in `specs/` that neither a call's promise nor a statement reaches, and
+//! fails where there are any: such ones are steps, and stand in `specs/steps/`.
 
 mod source;
 
-use source::{Definition, Import};
+use source::{Contract, Definition, Import};
 use std::collections::{BTreeMap, BTreeSet, HashMap};
 use std::fs;
+use std::io::Write;
 use std::path::Path;
 use std::process::ExitCode;
 
@@ -27,7 +28,17 @@ const DOCUMENT_01: &[(&str, &str)] = &[
     ("access", "row"),
 ];
 
-/// The statements of the three demands beside the promises: demand 2 is what the promises say.
+/// What document 02 names beside the exports: the display's reader, and the calls that two exports hand on to.
+const DOCUMENT_02: &[(&str, &str)] = &[
+    ("bus", "open"),
+    ("bus", "advance"),
+    ("bus", "next"),
+    ("bus", "read_at"),
+    ("totals", "totals"),
+    ("rewrite", "write"),
+];
+
+/// The statements of the demands beside the promises: demand 2 is what the promises say.
 const DEMANDS: &[(&str, &str, &str)] = &[
     ("lumbrisse", "Demand1", "Demand1"),
     ("recovery", "Demand3", "Demand3"),
@@ -35,8 +46,30 @@ const DEMANDS: &[(&str, &str, &str)] = &[
     ("recovery", "Demand3", "OneRefusalRow"),
 ];
 
-/// Files of `specs/` that nobody must believe: lists of modules, of what is opened, and examples.
-const ASIDE: &[&str] = &["Lib", "Opened", "Examples", "steps"];
+/// Files of `specs/` that nobody must believe: lists of modules, of what is opened, and examples with what they ask.
+const ASIDE: &[&str] = &[
+    "Lib",
+    "Opened",
+    "Examples",
+    "steps",
+    "Asked",
+    "Edges",
+    "Easy",
+    "Roundings",
+];
+
+/// The crate of the exports: all of its public functions are calls, or say what a call answers.
+const EXPORTS: &str = "lumbrisse";
+
+/// A program that makes the calls: nobody must believe it.
+const PROGRAM: &str = "replay";
+
+/// The contracts of a file of code.
+struct Contracts {
+    krate: String,
+    found: Vec<Contract>,
+    imports: HashMap<String, Import>,
+}
 
 /// Everything that was read.
 #[derive(Default)]
@@ -48,8 +81,8 @@ struct Sources {
     types: HashMap<(String, String), usize>,
     /// The imports of each specification, by crate and module.
     imports: HashMap<(String, String), HashMap<String, Import>>,
-    /// The contracts of each crate's public functions, with the imports of their file.
-    contracts: Vec<(String, String, Vec<String>, HashMap<String, Import>)>,
+    /// The contracts of each file of code, with its crate and imports.
+    contracts: Vec<Contracts>,
 }
 
 impl Sources {
@@ -59,7 +92,7 @@ impl Sources {
             let module = definition.module.clone();
             (definition.krate.clone(), module, name.to_string())
         };
-        if definition.module == "declared" {
+        if definition.is_type() {
             let name = definition.name.clone();
             self.types.insert((definition.krate.clone(), name), number);
         } else {
@@ -74,23 +107,42 @@ impl Sources {
     /// Reads a crate's `specs/*.antt` and `src/**/*.rt`.
     fn read(&mut self, crates: &Path, krate: &str) -> std::io::Result<()> {
         for path in files(&crates.join(krate).join("specs"), "antt")? {
-            let module = path.file_stem().unwrap_or_default().to_string_lossy().to_string();
+            let module = path
+                .file_stem()
+                .unwrap_or_default()
+                .to_string_lossy()
+                .to_string();
             if ASIDE.contains(&module.as_str()) {
                 continue;
             }
             let text = fs::read_to_string(&path)?;
-            let parsed = source::specification(krate, &module, &format!("{krate}/specs/{module}.antt"), &text);
-            self.imports.insert((krate.to_string(), module), parsed.imports);
+            let parsed = source::specification(
+                krate,
+                &module,
+                &format!("{krate}/specs/{module}.antt"),
+                &text,
+            );
+            self.imports
+                .insert((krate.to_string(), module), parsed.imports);
             parsed.definitions.into_iter().for_each(|d| self.add(d));
         }
         for path in files(&crates.join(krate).join("src"), "rt")? {
             let text = fs::read_to_string(&path)?;
-            let file = path.strip_prefix(crates).unwrap_or(&path).to_string_lossy().to_string();
-            source::declared(krate, &file, &text).into_iter().for_each(|d| self.add(d));
+            let file = path
+                .strip_prefix(crates)
+                .unwrap_or(&path)
+                .to_string_lossy()
+                .to_string();
+            source::declared(krate, &file, &text)
+                .into_iter()
+                .for_each(|d| self.add(d));
             let (found, imports) = source::contracts(&text);
-            for (name, lines) in found {
-                self.contracts.push((krate.to_string(), name, lines, imports.clone()));
-            }
+            let krate = krate.to_string();
+            self.contracts.push(Contracts {
+                krate,
+                found,
+                imports,
+            });
         }
         Ok(())
     }
@@ -111,7 +163,13 @@ impl Sources {
     }
 
     /// What a word names, in a file with these imports, of this crate and module.
-    fn named(&self, word: &str, imports: &HashMap<String, Import>, krate: &str, module: &str) -> Option<usize> {
+    fn named(
+        &self,
+        word: &str,
+        imports: &HashMap<String, Import>,
+        krate: &str,
+        module: &str,
+    ) -> Option<usize> {
         let plain = word.trim_matches('.');
         let (first, rest) = plain.split_once('.').unwrap_or((plain, ""));
         if let Some(found) = self.find(krate, module, first) {
@@ -147,20 +205,36 @@ impl Sources {
 
     /// What the contracts of these functions name.
     fn roots(&self, wanted: impl Fn(&str, &str) -> bool) -> Vec<usize> {
-        self.contracts
-            .iter()
-            .filter(|(krate, name, _, _)| wanted(krate, name))
-            .flat_map(|(krate, _, lines, imports)| {
-                let words = lines.iter().flat_map(|line| source::words(line));
-                words.filter_map(move |word| self.named(word, imports, krate, ""))
-            })
-            .collect()
+        let mut roots = Vec::new();
+        for file in &self.contracts {
+            let krate = &file.krate;
+            for contract in file.found.iter().filter(|c| wanted(krate, &c.name)) {
+                let words = contract.ensures.iter().flat_map(|line| source::words(line));
+                roots.extend(words.filter_map(|word| self.named(word, &file.imports, krate, "")));
+            }
+        }
+        roots
+    }
+
+    /// What is claimed of every input: closed statements, and those that a profile alone is left open in.
+    fn statements(&self) -> impl Iterator<Item = usize> + '_ {
+        let numbered = self.definitions.iter().enumerate();
+        let closed = |line: &str| {
+            let line = line.trim_end_matches(" where");
+            let kinds = [" : Type 0", " : Type 1", " : Profile → Type 0"];
+            kinds.iter().any(|kind| line.ends_with(kind))
+        };
+        let stated =
+            move |d: &Definition| !d.is_type() && d.text.first().is_some_and(|line| closed(line));
+        numbered
+            .filter(move |(_, d)| stated(d))
+            .map(|(number, _)| number)
     }
 
     /// The lines of the definitions among these, or of the declared types.
     fn lines(&self, numbers: &BTreeSet<usize>, types: bool) -> usize {
         let those = numbers.iter().map(|&n| &self.definitions[n]);
-        let those = those.filter(|d| (d.module == "declared") == types);
+        let those = those.filter(|d| (d.is_type()) == types);
         those.map(|d| d.text.len()).sum()
     }
 }
@@ -184,64 +258,97 @@ fn files(folder: &Path, ending: &str) -> std::io::Result<Vec<std::path::PathBuf>
 }
 
 /// One line for a set of definitions.
-fn tell(sources: &Sources, what: &str, numbers: &BTreeSet<usize>) {
+fn told(sources: &Sources, what: &str, numbers: &BTreeSet<usize>) -> String {
     let (lines, types) = (sources.lines(numbers, false), sources.lines(numbers, true));
-    println!("{lines:5} {types:5}   {what}");
+    format!("{lines:5} {types:5}   {what}\n")
 }
 
-fn run(crates: &Path) -> std::io::Result<bool> {
-    let mut sources = Sources::default();
-    let mut names: Vec<String> = fs::read_dir(crates)?
-        .filter_map(|entry| Some(entry.ok()?.file_name().to_string_lossy().to_string()))
-        .collect();
-    names.sort();
-    for name in &names {
-        sources.read(crates, name)?;
-    }
-
+/// The whole report, and whether every definition in `specs/` is reached.
+fn report(sources: &Sources) -> (String, bool) {
     let first = sources.reached(sources.roots(|krate, name| DOCUMENT_01.contains(&(krate, name))));
-    let demands = DEMANDS.iter().filter_map(|(krate, module, name)| sources.find(krate, module, name));
-    let stated = sources.reached(first.iter().copied().chain(demands));
-    let all = sources.reached(sources.roots(|krate, _| krate == "lumbrisse"));
-    println!("lines of definitions, and of declared types, that are reached from");
-    tell(&sources, "the promises of document 01's calls", &first);
-    tell(&sources, "these, and the statements of demands 1 and 3", &stated);
-    tell(&sources, "the promises of all calls", &all);
+    let listed = |call: (&str, &str)| DOCUMENT_01.contains(&call) || DOCUMENT_02.contains(&call);
+    let all =
+        sources.reached(sources.roots(|krate, name| krate == EXPORTS || listed((krate, name))));
+    let demands = DEMANDS
+        .iter()
+        .filter_map(|(krate, module, name)| sources.find(krate, module, name));
+    let stated = sources.reached(all.iter().copied().chain(demands));
+    let mut out =
+        String::from("lines of definitions, and of declared types, that are reached from\n");
+    out += &told(sources, "the promises of document 01's calls", &first);
+    out += &told(sources, "the promises of all calls", &all);
+    out += &told(
+        sources,
+        "these, and the statements of demands 1 and 3",
+        &stated,
+    );
 
-    println!("\nof document 01's calls, by crate:");
+    out += "\nof document 01's calls, by crate:\n";
     let mut shares: BTreeMap<&str, usize> = BTreeMap::new();
     for &number in &first {
         let definition = &sources.definitions[number];
         *shares.entry(&definition.krate).or_default() += definition.text.len();
     }
-    for (krate, lines) in &shares {
-        println!("{lines:5} {krate}");
+    shares
+        .iter()
+        .for_each(|(krate, lines)| out += &format!("{lines:5} {krate}\n"));
+
+    out += "\nthe ten longest:\n";
+    let mut longest: Vec<&Definition> = first.iter().map(|&n| &sources.definitions[n]).collect();
+    longest.retain(|definition| !definition.is_type());
+    longest.sort_by_key(|definition| std::cmp::Reverse(definition.text.len()));
+    for definition in longest.iter().take(10) {
+        let (name, file) = (&definition.name, &definition.file);
+        out += &format!("{:5} {name} ({file})\n", definition.text.len());
     }
 
-    println!("\nthe ten longest:");
-    let mut longest: Vec<&Definition> = first.iter().map(|&n| &sources.definitions[n]).collect();
-    longest.sort_by_key(|d| std::cmp::Reverse(d.text.len()));
-    for definition in longest.iter().take(10) {
-        println!("{:5} {} ({})", definition.text.len(), definition.name, definition.file);
+    let used = sources.reached(all.iter().copied().chain(sources.statements()));
+    let numbered = sources.definitions.iter().enumerate();
+    let unused =
+        numbered.filter(|(number, d)| !d.is_type() && d.krate != PROGRAM && !used.contains(number));
+    let unused: Vec<String> = unused
+        .map(|(_, d)| format!("      {} ({})\n", d.name, d.file))
+        .collect();
+    out += &format!(
+        "\nof specs/, reached from no call and no statement: {}\n",
+        unused.len()
+    );
+    out += &unused.concat();
+    (out, unused.is_empty())
+}
+
+/// Reads every crate in the folder.
+fn read(crates: &Path) -> std::io::Result<Sources> {
+    let mut sources = Sources::default();
+    let entries = fs::read_dir(crates)?.collect::<Result<Vec<_>, _>>()?;
+    let mut names: Vec<String> = entries
+        .iter()
+        .map(|e| e.file_name().to_string_lossy().to_string())
+        .collect();
+    names.sort();
+    for name in &names {
+        sources.read(crates, name)?;
     }
-    let used = sources.reached(all.iter().copied().chain(stated.iter().copied()));
-    println!("\nof specs/, reached from none of these:");
-    for (number, definition) in sources.definitions.iter().enumerate() {
-        if definition.module != "declared" && !used.contains(&number) {
-            println!("      {} ({})", definition.name, definition.file);
-        }
-    }
-    Ok(true)
+    Ok(sources)
 }
 
 fn main() -> ExitCode {
-    let folder = std::env::args().nth(1).unwrap_or_else(|| "crates".to_string());
-    match run(Path::new(&folder)) {
-        Ok(true) => ExitCode::SUCCESS,
-        Ok(false) => ExitCode::FAILURE,
+    let folder = std::env::args()
+        .nth(1)
+        .unwrap_or_else(|| "crates".to_string());
+    let sources = match read(Path::new(&folder)) {
+        Ok(sources) => sources,
         Err(error) => {
             eprintln!("believed: {folder}: {error}");
-            ExitCode::from(2)
+            return ExitCode::from(2);
         }
+    };
+    let (text, all_reached) = report(&sources);
+    // a reader that has seen enough closes the pipe
+    let _ = std::io::stdout().write_all(text.as_bytes());
+    if all_reached {
+        ExitCode::SUCCESS
+    } else {
+        ExitCode::FAILURE
     }
 }

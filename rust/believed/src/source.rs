@@ -13,6 +13,16 @@ pub struct Definition {
     pub text: Vec<String>,
 }
 
+/// The module of the types that `src/` declares.
+const DECLARED: &str = "declared";
+
+impl Definition {
+    /// Whether it is a type that `src/` declares.
+    pub fn is_type(&self) -> bool {
+        self.module == DECLARED
+    }
+}
+
 /// What a name that a file imports stands for: a crate, a module, and the name there. An empty name is the module.
 #[derive(Clone)]
 pub struct Import {
@@ -132,7 +142,9 @@ pub fn specification(krate: &str, module: &str, file: &str, text: &str) -> Parse
         }
         if let Some(last) = definitions.last_mut() {
             last.text.push(line.to_string());
-            if let (true, Some((_, true)), Some((constructor, _))) = (inside, open, trimmed.split_once(" :")) {
+            if let (true, Some((_, true)), Some((constructor, _))) =
+                (inside, open, trimmed.split_once(" :"))
+            {
                 last.constructors.push(constructor.to_string());
             }
         }
@@ -163,7 +175,7 @@ pub fn declared(krate: &str, file: &str, text: &str) -> Vec<Definition> {
             open = trimmed.ends_with('{');
             found.push(Definition {
                 krate: krate.to_string(),
-                module: "declared".to_string(),
+                module: DECLARED.to_string(),
                 name: name.split('<').next().unwrap_or(name).to_string(),
                 file: file.to_string(),
                 constructors: Vec::new(),
@@ -174,25 +186,31 @@ pub fn declared(krate: &str, file: &str, text: &str) -> Vec<Definition> {
     found
 }
 
-/// The public functions of a file of `src/`, each with the lines of its contract, and the file's ghost imports.
-pub fn contracts(text: &str) -> (Vec<(String, Vec<String>)>, HashMap<String, Import>) {
-    let mut found: Vec<(String, Vec<String>)> = Vec::new();
+/// A public function's contract: the lines that say what it ensures.
+pub struct Contract {
+    pub name: String,
+    pub ensures: Vec<String>,
+}
+
+/// The contracts of a file of `src/`, and its ghost imports.
+pub fn contracts(text: &str) -> (Vec<Contract>, HashMap<String, Import>) {
+    let mut found: Vec<Contract> = Vec::new();
     let mut imports = HashMap::new();
     let mut open = false;
     for line in text.lines() {
         if line.starts_with("ghost use ") {
             import(line, &mut imports);
         }
-        let public = line.starts_with("pub fn ") || line.starts_with("pub extern \"C\" fn ");
-        if public {
+        if line.starts_with("pub fn ") || line.starts_with("pub extern \"C\" fn ") {
             let name = line.split("fn ").nth(1).unwrap_or("");
-            let name = name.split(['(', '<']).next().unwrap_or("");
-            found.push((name.to_string(), Vec::new()));
+            let name = name.split(['(', '<']).next().unwrap_or("").to_string();
+            let ensures = Vec::new();
+            found.push(Contract { name, ensures });
             open = true;
         }
         if open && line.trim_start().starts_with("ensures") {
-            if let Some((_, lines)) = found.last_mut() {
-                lines.push(line.to_string());
+            if let Some(contract) = found.last_mut() {
+                contract.ensures.push(line.to_string());
             }
         }
         open &= line != "{";
@@ -235,8 +253,8 @@ mod tests {
     #[test]
     fn a_contract_is_its_ensures() {
         let (found, imports) = contracts("ghost use Rattle.ledger.specs.Plain.{plain};\npub fn f(s: &[u8]) -> usize\n    ensures { λ r. r ≡ plain s }\n{\n}\n");
-        assert_eq!(found[0].0, "f");
-        assert!(words(&found[0].1[0]).any(|w| w == "plain"));
+        assert_eq!(found[0].name, "f");
+        assert!(words(&found[0].ensures[0]).any(|w| w == "plain"));
         assert_eq!(imports["plain"].module, "Plain");
     }
 }
