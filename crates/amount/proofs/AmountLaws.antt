@@ -5,7 +5,7 @@ use native.Mathlib.Omega.{arith}
 use lib.ListN.{length}
 use Rattle.text.specs.Answer.{must}
 use Rattle.text.specs.Leaves.{gap, currency, string, hardGap}
-use Rattle.text.proofs.Joins.{Reach, to-reach, reach-from, must-reach, then-reach, and-reach}
+use Rattle.text.proofs.Joins.{required, Reach, to-reach, reach-from, must-reach, then-reach, and-reach}
 use Rattle.text.proofs.Alike.{Alike, both-to, then-alike, and-alike, must-alike}
 use Rattle.text.proofs.TokenEnds.{gap-reach, currency-reach, string-reach, hard-gap-reach}
 use Rattle.text.proofs.SharedLines.{Shared, told, gap-alike, currency-alike, hard-gap-alike}
@@ -37,20 +37,20 @@ module _ (s : List ℕ) where
   pub hard-currency-reach : (at : ℕ) → at ≤ N → Reach N (at + 1) (hardCurrency s at)
   unfolding hardCurrency
   hard-currency-reach at h =
-      and-reach N (at + 1) (at + 1) (must requiredNumber at (currency s at)) _ (must-reach N (at + 1) requiredNumber at (currency s at) h (currency-reach s at)) (λ e p q. to-reach N (at + 1) e _ p q)
+      and-reach N (at + 1) (at + 1) (must requiredNumber at (currency s at)) _ (must-reach N (at + 1) required at (currency s at) h (currency-reach s at)) (λ e p q. to-reach N (at + 1) e _ p q)
 
   pub hard-amount-reach : (k at : ℕ) → at ≤ N → Reach N (at + 1) (hardAmount k s at)
   unfolding hardAmount
   hard-amount-reach k at h =
-      then-reach N (at + 1) (at + 1) (must requiredNumber at (expression s at)) _ (must-reach N (at + 1) requiredNumber at _ h (expression-reach s at)) (λ e v p q.
-      and-reach N (e + 1) (at + 1) (hardGap requiredNumber s e) _ (hard-gap-reach s e requiredNumber q) (λ c p₂ q₂.
-      and-reach N (c + 1) (at + 1) (must requiredNumber c (currency s c)) _ (must-reach N (c + 1) requiredNumber c _ q₂ (currency-reach s c)) (λ d p₃ q₃. to-reach N (at + 1) d _ (omega arith) q₃)))
+      then-reach N (at + 1) (at + 1) (must requiredNumber at (expression s at)) _ (must-reach N (at + 1) required at _ h (expression-reach s at)) (λ e v p q.
+      and-reach N (e + 1) (at + 1) (hardGap requiredNumber s e) _ (hard-gap-reach s e required q) (λ c p₂ q₂.
+      and-reach N (c + 1) (at + 1) (must requiredNumber c (currency s c)) _ (must-reach N (c + 1) required c _ q₂ (currency-reach s c)) (λ d p₃ q₃. to-reach N (at + 1) d _ (omega arith) q₃)))
 
   pub price-of-reach : (at : ℕ) → at ≤ N → Reach N (at + 1) (priceOf s at)
   unfolding priceOf
   price-of-reach at h =
       and-reach N (at + 1) (at + 1) (hardCurrency s at) _ (hard-currency-reach at h) (λ e p q.
-      and-reach N (e + 1) (at + 1) (hardGap requiredNumber s e) _ (hard-gap-reach s e requiredNumber q) (λ g p₂ q₂.
+      and-reach N (e + 1) (at + 1) (hardGap requiredNumber s e) _ (hard-gap-reach s e required q) (λ g p₂ q₂.
       reach-from N (g + 1) (at + 1) (hardAmount 26 s g) (omega arith) (hard-amount-reach 26 g q₂)))
 
 -- ---- they are read alike in two texts that share a line

@@ -9,13 +9,14 @@ use native.Mathlib.Decide.{decLt}
 use borrow.Author.Tests.{eqb-true}
 use lib.Dec.{eqb}
 use lib.ListN.{getD, length, take, drop}
+use Rattle.decimal.specs.declared.Form.{Form}
 use Rattle.decimal.specs.declared.Form.the-variants.{Rounding}
 use Rattle.decimal.specs.declared.Value.{Value}
 use Rattle.text.specs.Bytes.{isBlank, isSpace, between}
 use Rattle.text.specs.Run.{runTo, blanks}
 use Rattle.text.specs.Answer.{Ans, To, Miss, Hard, _then_, _else_}
 use Rattle.text.proofs.Steps.{byte-within, getD-past, run-ends, run-from, run-within, run-first}
-use Rattle.text.proofs.Joins.{Reach, to-reach, miss-reach, hard-reach, reach-from, cond-reach, then-reach, else-reach}
+use Rattle.text.proofs.Joins.{deep, Reach, to-reach, miss-reach, hard-reach, reach-from, cond-reach, then-reach, else-reach}
 use Rattle.amount.specs.Literal.{inLiteral, count, isNumber, literalAs, unsigned, literal}
 use Rattle.text.specs.Refusals.{deepNumber}
 use Rattle.amount.specs.Expression.{Arithmetic, combined, expressionIn, negatedValue, isPlus, isTimes, goesOn, chain, atom, products, sums, negation, inGroup, closed, group, groups, within, expression}
@@ -153,7 +154,7 @@ module _ (s : List ℕ) where
   pub group-reach : (calc : Arithmetic) (n at : ℕ) → Reach N (at + 1) (group calc n s at)
   unfolding group
   group-reach calc zero at = if-reach N (at + 1) (eqb (getD s at 0) 40) (Hard deepNumber at)
-      (λ t. let w = byte-within s at 40 (sym (eqb-true _ 40 t)) (omega arith) in hard-reach N (at + 1) deepNumber at (omega arith))
+      (λ t. let w = byte-within s at 40 (sym (eqb-true _ 40 t)) (omega arith) in hard-reach N (at + 1) deep at (omega arith))
   group-reach calc (suc n) at =
       let i = blanks s (at + 1) in
       if-reach N (at + 1) (eqb (getD s at 0) 40) (inGroup calc (group calc n s) s i then closed s)
@@ -164,6 +165,10 @@ module _ (s : List ℕ) where
   unfolding within
   within-reach calc n at = inGroup-reach calc (group calc n s) (group-reach calc n) at
 
+  pub expression-in-reach : (form : Form) (at : ℕ) → Reach N (at + 1) (expressionIn form s at)
+  unfolding expressionIn
+  expression-in-reach form at = within-reach (combined form) groups at
+
   pub expression-reach : (at : ℕ) → Reach N (at + 1) (expression s at)
-  unfolding expression expressionIn
-  expression-reach at = within-reach (combined Rounding) groups at
+  unfolding expression
+  expression-reach at = expression-in-reach Rounding at

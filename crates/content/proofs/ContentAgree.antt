@@ -15,7 +15,7 @@ use Rattle.text.specs.Answer.{To, Miss, more, _and_, maybe}
 use Rattle.text.specs.Leaves.{token, gap, hardGap, lineEnd}
 use Rattle.text.specs.declared.Read.{Read}
 use Rattle.text.proofs.Steps.{byte-within}
-use Rattle.text.proofs.Joins.{Reach, reach-from, and-reach, and-parts}
+use Rattle.text.proofs.Joins.{required, Reach, reach-from, and-reach, and-parts}
 use Rattle.text.proofs.Alike.{Same, Upto, upto, same-eq, same-ends, and-alike, maybe-alike}
 use Rattle.text.proofs.SharedLines.{Shared, gap-alike, line-alike, hard-gap-alike}
 use Rattle.text.specs.Boundaries.{isStart}
@@ -103,7 +103,7 @@ module _ (front t : List ℕ) (b : ℕ) (B : isStart b ≡ true) where
   event-of-agree at h =
       and-loose N (hard-string-agree at h) (hard-string-reach S at (omega (arith, longer front t b B)))
       (λ a _ h₁. and-agree (hard-gap-alike C requiredNumber (upto a h₁)) (λ g h₂. hard-string-agree g h₂))
-      (λ a p q. and-reach N (a + 1) a (hardGap requiredNumber S a) _ (hard-gap-reach S a requiredNumber q) (λ g u v. reach-from N (g + 1) a (hardString S g) (omega arith) (hard-string-reach S g v)))
+      (λ a p q. and-reach N (a + 1) a (hardGap requiredNumber S a) _ (hard-gap-reach S a required q) (λ g u v. reach-from N (g + 1) a (hardString S g) (omega arith) (hard-string-reach S g v)))
       (λ a. sure-and _ (hard-gap-sure requiredNumber S a) (hard-string-sure S))
 
   -- ---- open: its booking, with what follows

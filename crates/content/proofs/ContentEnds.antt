@@ -7,7 +7,7 @@ use Rattle.text.specs.Bytes.{isBlank}
 use Rattle.text.specs.Run.{blanks}
 use Rattle.text.specs.Answer.{must, maybe, many}
 use Rattle.text.specs.Leaves.{account, currency, byte, comma, hardGap}
-use Rattle.text.proofs.Joins.{Reach, to-reach, reach-from, must-reach, then-reach, and-reach}
+use Rattle.text.proofs.Joins.{required, Reach, to-reach, reach-from, must-reach, then-reach, and-reach}
 use Rattle.text.proofs.TokenEnds.{run-reach, account-reach, currency-reach, byte-reach, comma-reach, hard-gap-reach}
 use Rattle.text.specs.Refusals.{requiredNumber}
 use Rattle.amount.specs.Expression.{expression}
@@ -23,11 +23,11 @@ module _ (s : List ℕ) where
   pub hard-account-reach : (at : ℕ) → at ≤ N → Reach N (at + 1) (hardAccount s at)
   unfolding hardAccount
   hard-account-reach at h =
-      and-reach N (at + 1) (at + 1) (must requiredNumber at (account s at)) _ (must-reach N (at + 1) requiredNumber at _ h (account-reach s at)) (λ e p q. to-reach N (at + 1) e _ p q)
+      and-reach N (at + 1) (at + 1) (must requiredNumber at (account s at)) _ (must-reach N (at + 1) required at _ h (account-reach s at)) (λ e p q. to-reach N (at + 1) e _ p q)
 
   pub hard-string-reach : (at : ℕ) → at ≤ N → Reach N (at + 1) (hardString s at)
   unfolding hardString
-  hard-string-reach at h = must-reach N (at + 1) requiredNumber at _ h (quoted-reach s _ at)
+  hard-string-reach at h = must-reach N (at + 1) required at _ h (quoted-reach s _ at)
 
   pub tolerance-reach : (at : ℕ) → at ≤ N → Reach N (at + 1) (tolerance s at)
   unfolding tolerance
@@ -42,11 +42,11 @@ module _ (s : List ℕ) where
   unfolding balanceOf
   balance-of-reach at h =
       and-reach N (at + 1) (at + 1) (hardAccount s at) _ (hard-account-reach at h) (λ a p₁ q₁.
-      and-reach N (a + 1) (at + 1) (hardGap requiredNumber s a) _ (hard-gap-reach s a requiredNumber q₁) (λ g p₂ q₂.
-      then-reach N (g + 1) (at + 1) (must requiredNumber g (expression s g)) _ (must-reach N (g + 1) requiredNumber g _ q₂ (expression-reach s g)) (λ e v p₃ q₃.
+      and-reach N (a + 1) (at + 1) (hardGap requiredNumber s a) _ (hard-gap-reach s a required q₁) (λ g p₂ q₂.
+      then-reach N (g + 1) (at + 1) (must requiredNumber g (expression s g)) _ (must-reach N (g + 1) required g _ q₂ (expression-reach s g)) (λ e v p₃ q₃.
       then-reach N e (at + 1) (maybe e (tolerance s e)) _ (optional-reach N e _ q₃ (tolerance-reach e q₃)) (λ t ts p₄ q₄.
-      and-reach N (t + 1) (at + 1) (hardGap requiredNumber s t) _ (hard-gap-reach s t requiredNumber q₄) (λ c p₅ q₅.
-      and-reach N (c + 1) (at + 1) (must requiredNumber c (currency s c)) _ (must-reach N (c + 1) requiredNumber c _ q₅ (currency-reach s c)) (λ d p₆ q₆.
+      and-reach N (t + 1) (at + 1) (hardGap requiredNumber s t) _ (hard-gap-reach s t required q₄) (λ c p₅ q₅.
+      and-reach N (c + 1) (at + 1) (must requiredNumber c (currency s c)) _ (must-reach N (c + 1) required c _ q₅ (currency-reach s c)) (λ d p₆ q₆.
       to-reach N (at + 1) d _ (omega arith) q₆))))))
 
   pub one-currency-reach : (at : ℕ) → Reach N (at + 1) (oneCurrency s at)
@@ -80,12 +80,12 @@ module _ (s : List ℕ) where
   unfolding padOf
   pad-of-reach at h =
       and-reach N (at + 1) (at + 1) (hardAccount s at) _ (hard-account-reach at h) (λ a p₁ q₁.
-      and-reach N (a + 1) (at + 1) (hardGap requiredNumber s a) _ (hard-gap-reach s a requiredNumber q₁) (λ g p₂ q₂.
+      and-reach N (a + 1) (at + 1) (hardGap requiredNumber s a) _ (hard-gap-reach s a required q₁) (λ g p₂ q₂.
       reach-from N (g + 1) (at + 1) (hardAccount s g) (omega arith) (hard-account-reach g q₂)))
 
   pub event-of-reach : (at : ℕ) → at ≤ N → Reach N (at + 1) (eventOf s at)
   unfolding eventOf
   event-of-reach at h =
       and-reach N (at + 1) (at + 1) (hardString s at) _ (hard-string-reach at h) (λ a p₁ q₁.
-      and-reach N (a + 1) (at + 1) (hardGap requiredNumber s a) _ (hard-gap-reach s a requiredNumber q₁) (λ g p₂ q₂.
+      and-reach N (a + 1) (at + 1) (hardGap requiredNumber s a) _ (hard-gap-reach s a required q₁) (λ g p₂ q₂.
       reach-from N (g + 1) (at + 1) (hardString s g) (omega arith) (hard-string-reach g q₂)))

@@ -3,11 +3,12 @@ use Prim.Native.Nat.{ℕ, suc, _+_, _≤_}
 use native.Mathlib.Omega.{arith}
 use mathlib.Core.List.{List}
 use lib.ListN.{length}
+use Rattle.text.specs.Every.{OneOf}
 use Rattle.text.specs.Bytes.{isBlank}
 use Rattle.text.specs.Run.{blanks}
 use Rattle.text.specs.Answer.{_and_, must, maybe}
 use Rattle.text.specs.Leaves.{account, currency, byte, comma, hardGap}
-use Rattle.text.proofs.Joins.{must-reach}
+use Rattle.text.proofs.Joins.{readingNumbers, required, must-reach}
 use Rattle.text.proofs.Inversions.{must-inv}
 use Rattle.text.proofs.TokenEnds.{run-reach, account-reach, currency-reach, byte-reach, comma-reach, hard-gap-reach}
 use Rattle.amount.specs.Details.{Rows, span, quoted}
@@ -26,13 +27,13 @@ module _ (s : List ℕ) where
   N = length s
 
   -- a required gap before rows
-  pub hard-gap-and : (n k at : ℕ) (f : ℕ → Rows) → at ≤ N → ((g : ℕ) → at + 1 ≤ g → g ≤ N → Fits s k (f g)) → Fits s k (hardGap n s at and f)
-  hard-gap-and n k at f h u = bare-and N (at + 1) k (hardGap n s at) f (hard-gap-reach s at n h) (hard-gap-bare s at n) u
+  pub hard-gap-and : {n : ℕ} (w : OneOf readingNumbers n) (k at : ℕ) (f : ℕ → Rows) → at ≤ N → ((g : ℕ) → at + 1 ≤ g → g ≤ N → Fits s k (f g)) → Fits s k (hardGap n s at and f)
+  hard-gap-and {n} w k at f h u = bare-and N (at + 1) k (hardGap n s at) f (hard-gap-reach s at w h) (hard-gap-bare s at n) u
 
   pub hard-account-fits : (at : ℕ) → at ≤ N → Fits s at (hardAccount s at)
   unfolding hardAccount
   hard-account-fits at h =
-      bare-and N (at + 1) at (must requiredNumber at (account s at)) _ (must-reach N (at + 1) requiredNumber at _ h (account-reach s at)) (must-bare requiredNumber at _ (account-bare s at)) (λ e p q.
+      bare-and N (at + 1) at (must requiredNumber at (account s at)) _ (must-reach N (at + 1) required at _ h (account-reach s at)) (must-bare requiredNumber at _ (account-bare s at)) (λ e p q.
       row-fits at e _ span-filled (omega arith))
 
   -- a string whose row is a span
@@ -57,11 +58,11 @@ module _ (s : List ℕ) where
   unfolding balanceOf
   balance-of-fits at h =
       and-fits N (at + 1) at (hardAccount s at) _ (hard-account-reach s at h) (hard-account-fits at h) (λ a p₁ q₁.
-      hard-gap-and requiredNumber a a _ q₁ (λ g p₂ q₂.
-      then-read N (g + 1) a (must requiredNumber g (expression s g)) _ (must-reach N (g + 1) requiredNumber g _ q₂ (expression-reach s g)) (λ e v x p₃ q₃.
+      hard-gap-and required a a _ q₁ (λ g p₂ q₂.
+      then-read N (g + 1) a (must requiredNumber g (expression s g)) _ (must-reach N (g + 1) required g _ q₂ (expression-reach s g)) (λ e v x p₃ q₃.
       then-rows _ N e e a (maybe e (tolerance s e)) _ (optional-reach N e _ q₃ (tolerance-reach s e q₃)) (maybe-fits e _ (tolerance-fits e q₃)) (λ t ts p₄ q₄ r₄.
-      hard-gap-and requiredNumber a t _ q₄ (λ c p₅ q₅.
-      bare-and N (c + 1) a (must requiredNumber c (currency s c)) _ (must-reach N (c + 1) requiredNumber c _ q₅ (currency-reach s c)) (must-bare requiredNumber c _ (currency-bare s c)) (λ d p₆ q₆.
+      hard-gap-and required a t _ q₄ (λ c p₅ q₅.
+      bare-and N (c + 1) a (must requiredNumber c (currency s c)) _ (must-reach N (c + 1) required c _ q₅ (currency-reach s c)) (must-bare requiredNumber c _ (currency-bare s c)) (λ d p₆ q₆.
       to-fits a d _ (
         (
           omega arith,
@@ -101,10 +102,10 @@ module _ (s : List ℕ) where
   unfolding padOf
   pad-of-fits at h =
       and-fits N (at + 1) at (hardAccount s at) _ (hard-account-reach s at h) (hard-account-fits at h) (λ a p₁ q₁.
-      hard-gap-and requiredNumber a a _ q₁ (λ g p₂ q₂. fits-from g a _ (omega arith) (hard-account-fits g q₂)))
+      hard-gap-and required a a _ q₁ (λ g p₂ q₂. fits-from g a _ (omega arith) (hard-account-fits g q₂)))
 
   pub event-of-fits : (at : ℕ) → at ≤ N → Fits s at (eventOf s at)
   unfolding eventOf
   event-of-fits at h =
       and-fits N (at + 1) at (hardString s at) _ (hard-string-reach s at h) (hard-string-fits at) (λ a p₁ q₁.
-      hard-gap-and requiredNumber a a _ q₁ (λ g p₂ q₂. fits-from g a _ (omega arith) (hard-string-fits g)))
+      hard-gap-and required a a _ q₁ (λ g p₂ q₂. fits-from g a _ (omega arith) (hard-string-fits g)))

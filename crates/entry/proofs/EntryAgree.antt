@@ -14,7 +14,7 @@ use Rattle.text.specs.Answer.{Ans, To, Miss, Hard, more, _then_, _and_}
 use Rattle.text.specs.Leaves.{gap, lineEnd}
 use Rattle.text.proofs.TestLaws.{absurd-bool}
 use Rattle.text.proofs.InLine.{hasLF, no-lf}
-use Rattle.text.proofs.Joins.{Reach, reach-from, must-reach, and-reach}
+use Rattle.text.proofs.Joins.{required, Reach, reach-from, must-reach, and-reach}
 use Rattle.text.proofs.Alike.{Same, Upto, upto, both-to, to-same, if-alike}
 use Rattle.text.proofs.SharedLines.{Shared, byte-same, run-alike, gap-alike, line-alike, tag-alike, word-alike, date-alike, hard-gap-alike}
 use Rattle.text.specs.Boundaries.{isStart}
@@ -178,7 +178,7 @@ module _ (front t : List ℕ) (b : ℕ) (B : isStart b ≡ true) where
       and-agree (word-alike C (bytes "include") (words-lf .8) (upto 0 h)) (λ a h₁.
       and-agree (hard-gap-alike C wordGapNumber (upto a h₁)) (λ c h₂.
       and-loose N (hard-string-agree front t b B c h₂) (hard-string-reach S c (omega (arith, longer front t b B))) (λ j _ h₃. line-agree front t b B requiredNumber j (omega arith))
-      (λ j p q. must-reach N j requiredNumber j _ q (line-reach S j q)) (λ j. sure-must requiredNumber j _)))
+      (λ j p q. must-reach N j required j _ q (line-reach S j q)) (λ j. sure-must requiredNumber j _)))
 
   tagged-agree : (w : String) → hasLF (bytes w) ≡ false → 0 < M → Agrees M (suc M) false (tagged w S 0) (tagged w X 0)
   unfolding tagged

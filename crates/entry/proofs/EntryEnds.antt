@@ -13,7 +13,7 @@ use Rattle.text.specs.Run.{runTo}
 use Rattle.text.specs.Answer.{To, Miss, Hard, must}
 use Rattle.text.specs.Leaves.{gap, lineEnd, date, tag, word, hardGap}
 use Rattle.text.proofs.Steps.{byte-within}
-use Rattle.text.proofs.Joins.{Reach, to-reach, miss-reach, hard-reach, reach-from, cond-reach, must-reach, else-reach, then-reach, and-reach}
+use Rattle.text.proofs.Joins.{required, wordGap, Reach, to-reach, miss-reach, hard-reach, reach-from, cond-reach, must-reach, else-reach, then-reach, and-reach}
 use Rattle.text.proofs.TokenEnds.{gap-reach, line-reach, tag-reach, word-reach, date-reach, hard-gap-reach}
 use Rattle.amount.specs.Details.{Rows, quoted}
 use Rattle.amount.specs.Amounts.{hardCurrency, priceOf}
@@ -33,7 +33,7 @@ pub as-entry-reach : (n i k d : ℕ) (a : Rows) → Reach n i a → Reach n i (a
 unfolding asEntry
 as-entry-reach n i k d (To j rs) r = record { ends = r .ends }
 as-entry-reach n i k d Miss r = miss-reach n i
-as-entry-reach n i k d (Hard m p) r = hard-reach n i m p (r .ends)
+as-entry-reach n i k d (Hard m p) r = hard-reach n i (r .ends .1) p (r .ends .0)
 
 module _ (s : List ℕ) where
   abbrev N : ℕ
@@ -46,7 +46,7 @@ module _ (s : List ℕ) where
   unfolding keyword
   keyword-reach w content r at h =
       and-reach N (at + length (bytes w)) (at + 1) (word (bytes w) s at) _ (word-reach s at h (bytes w)) (λ e p₁ q₁.
-      and-reach N (e + 1) (at + 1) (hardGap wordGapNumber s e) _ (hard-gap-reach s e wordGapNumber q₁) (λ g p₂ q₂.
+      and-reach N (e + 1) (at + 1) (hardGap wordGapNumber s e) _ (hard-gap-reach s e wordGap q₁) (λ g p₂ q₂.
       and-reach N (g + 1) (at + 1) (content s g) _ (r g q₂) (λ m p₃ q₃.
       and-reach N m (at + 1) (lineEnd s m) _ (line-reach s m q₃) (λ l p₄ q₄.
       reach-from N l (at + 1) (metadata s l) (omega arith) (metadata-reach s l q₄)))))
@@ -65,9 +65,9 @@ module _ (s : List ℕ) where
   unfolding include
   include-reach at h =
       and-reach N (at + length (bytes "include")) (at + 1) (word (bytes "include") s at) _ (word-reach s at h (bytes "include")) (λ a p₁ q₁.
-      and-reach N (a + 1) (at + 1) (hardGap wordGapNumber s a) _ (hard-gap-reach s a wordGapNumber q₁) (λ b p₂ q₂.
+      and-reach N (a + 1) (at + 1) (hardGap wordGapNumber s a) _ (hard-gap-reach s a wordGap q₁) (λ b p₂ q₂.
       and-reach N (b + 1) (at + 1) (hardString s b) _ (hard-string-reach s b q₂) (λ e p₃ q₃.
-      reach-from N e (at + 1) (must requiredNumber e (lineEnd s e)) (omega arith) (must-reach N e requiredNumber e _ q₃ (line-reach s e q₃)))))
+      reach-from N e (at + 1) (must requiredNumber e (lineEnd s e)) (omega arith) (must-reach N e required e _ q₃ (line-reach s e q₃)))))
 
   pub tagged-reach : (w : String) (at : ℕ) → at ≤ N → Reach N (at + 1) (tagged w s at)
   unfolding tagged
@@ -97,7 +97,7 @@ module _ (s : List ℕ) where
   unfolding directive
   directive-reach =
       then-reach N 10 1 (date s 0) _ (date-reach s 0 (omega arith)) (λ e d p₁ q₁.
-      then-reach N (e + 1) 1 (hardGap {A = Detail} wordGapNumber s e) _ (hard-gap-reach s e wordGapNumber q₁) (λ g _ p₂ q₂.
+      then-reach N (e + 1) 1 (hardGap {A = Detail} wordGapNumber s e) _ (hard-gap-reach s e wordGap q₁) (λ g _ p₂ q₂.
       reach-from N g 1 (dateless d s g) (omega arith) (dateless-reach d g q₂)))
 
   pub blank-reach : Reach N 1 (blank s)

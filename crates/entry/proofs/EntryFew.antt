@@ -7,10 +7,10 @@ use lib.ListN.{length}
 use Rattle.text.specs.Bytes.{bytes}
 use Rattle.text.specs.Answer.{_and_}
 use Rattle.text.specs.Leaves.{lineEnd, word}
-use Rattle.text.proofs.Joins.{Reach}
+use Rattle.text.proofs.Joins.{wordGap, Reach}
 use Rattle.text.proofs.TokenEnds.{line-reach, tag-reach, word-reach}
 use Rattle.amount.specs.Details.{Rows, quoted}
-use Rattle.text.specs.Refusals.{requiredNumber, wordGapNumber}
+use Rattle.text.specs.Refusals.{requiredNumber}
 use Rattle.amount.proofs.RowCounts.{span-filled, Fits, fits-from, fits-wide, must-fits, row-fits, and-fits, bare-and, word-bare, tag-and}
 use Rattle.amount.proofs.AmountLaws.{quoted-reach}
 use Rattle.posting.proofs.PostingFew.{line-fits, gap-and, metadata-fits}
@@ -35,7 +35,7 @@ module _ (s : List ℕ) where
   unfolding keyword
   keyword-fits w content r u at h =
       word-and w at at _ h (λ e p₁ q₁.
-      hard-gap-and s wordGapNumber at e _ q₁ (λ g p₂ q₂.
+      hard-gap-and s wordGap at e _ q₁ (λ g p₂ q₂.
       fits-from g at _ (omega arith)
       (and-fits N (g + 1) g (content s g) _ (r g q₂) (u g q₂) (λ m p₃ q₃.
       and-fits N m m (lineEnd s m) _ (line-reach s m q₃) (line-fits s m q₃) (λ l p₄ q₄. fits-wide _ l _ (omega arith) (metadata-fits s l q₄))))))
@@ -56,7 +56,7 @@ module _ (s : List ℕ) where
   unfolding include
   include-fits at h =
       word-and "include" (at + 1) at _ h (λ a p₁ q₁.
-      hard-gap-and s wordGapNumber (at + 1) a _ q₁ (λ b p₂ q₂.
+      hard-gap-and s wordGap (at + 1) a _ q₁ (λ b p₂ q₂.
       fits-from b (at + 1) _ (omega arith)
       (and-fits N (b + 1) b (hardString s b) _ (hard-string-reach s b q₂) (hard-string-fits s b) (λ e p₃ q₃. must-fits e requiredNumber e _ (line-fits s e q₃)))))
 

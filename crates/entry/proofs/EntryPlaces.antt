@@ -1,19 +1,22 @@
--- The place of an entry's refusal stands within its text.
+-- An entry's refusal has a number of its list, and its place stands within the entry's text.
 use Prim.Native.Nat.{ℕ, _≤_}
 use native.Mathlib.Omega.{arith}
 use mathlib.Core.Path.{_≡_, refl, subst}
 use mathlib.Core.Bool.{Bool, true, false, cond}
+use mathlib.Core.Logic.{inl, inr}
 use mathlib.Core.List.{List, [], _∷_}
 use borrow.Author.Tests.{eqb-true}
 use lib.Dec.{eqb}
 use lib.ListN.{length}
 use Rattle.decimal.specs.declared.Value.{Value}
 use Rattle.decimal.specs.declared.Value.the-variants.{Known, Refused}
+use Rattle.text.specs.Every.{OneOf}
 use Rattle.text.specs.Answer.{Ans, To, Miss, Hard}
-use Rattle.text.proofs.Joins.{Reach}
+use Rattle.text.proofs.Joins.{readingNumbers, Reach}
 use Rattle.text.specs.Refusals.{deepNumber}
 use Rattle.amount.specs.declared.detail.Detail.{Detail}
 use Rattle.amount.specs.Kinds.{numberMetaKind}
+use Rattle.amount.proofs.ValueSizes.{valueNumbers, Small}
 use Rattle.amount.proofs.RowCounts.{anyKinds, Second, unset, within, day, flagged, Rising}
 use Rattle.row.specs.declared.table.Row.{Row}
 use Rattle.row.specs.Details.{valuePlace}
@@ -40,31 +43,63 @@ value-within s d h f = on (eqb (d .kind) numberMetaKind) refl
     on true e = number-place s d (eqb-true (d .kind) numberMetaKind e) f
     on false e = h
 
+-- ---- the numbers
+
+abbrev pub entryNumbers : List ℕ
+entryNumbers = 3 ∷ 4 ∷ 5 ∷ valueNumbers
+
+reading-number : (k : ℕ) → OneOf readingNumbers k → OneOf entryNumbers k
+reading-number k (inl e) = inl e
+reading-number k (inr (inl e)) = inr (inl e)
+reading-number k (inr (inr (inl e))) = inr (inl e)
+reading-number k (inr (inr (inr (inl e)))) = inr (inl e)
+reading-number k (inr (inr (inr (inr e)))) = absurd e
+
+-- ---- the entry
+
+-- refused by one of the numbers, at a place of the text
+abbrev Met : List ℕ → List ℕ → ℕ → ℕ → Type 0
+Met numbers s k p = OneOf numbers k × (p ≤ length s)
+
 module _ (s : List ℕ) (k p : ℕ) where
-  judged-place : (i j : ℕ) (ds : List Detail) (m : ℕ) (rs : List Row) → j ≤ length s → Rising anyKinds s i j ds → judged ds (got m rs) ≡ refuse k p → p ≤ length s
+  judged-met : (i j : ℕ) (ds : List Detail) (m : ℕ) (rs : List Row) → j ≤ length s → Rising anyKinds s i j ds → judged ds (got m rs) ≡ refuse k p
+      → Met valueNumbers s k p
   unfolding judged
-  judged-place i j [] m rs h r e = absurd (let z : _≡_ {A = ℕ} 0 1 = cc in omega arith)
-  judged-place i j (d ∷ ds) m rs h r e =
-      on (d .value) refl (value-within s d (omega (arith, rising-le s (d .start) j ds (r .2))) (r .1 .second)) (judged-place (d .start) j ds m rs h (r .2))
+  judged-met i j [] m rs h r e = absurd (let z : _≡_ {A = ℕ} 0 1 = cc in omega arith)
+  judged-met i j (d ∷ ds) m rs h r e =
+      on (d .value) refl (r .1 .small) (value-within s d (omega (arith, rising-le s (d .start) j ds (r .2))) (r .1 .second)) (judged-met (d .start) j ds m rs h (r .2))
     where
-      on : (v : Value) → d .value ≡ v → valuePlace d ≤ length s → (judged ds (got m rs) ≡ refuse k p → p ≤ length s) → p ≤ length s
-      on (Known x) q u f = f (rw q at e)
-      on (Refused n) q u f = let z : valuePlace d ≡ p = cc (rw q at e) in omega arith
+      on : (v : Value) → d .value ≡ v → Small (d .value) → valuePlace d ≤ length s → (judged ds (got m rs) ≡ refuse k p → Met valueNumbers s k p) → Met valueNumbers s k p
+      on (Known x) q t u f = f (rw q at e)
+      on (Refused n) q t u f =
+          let w : refuse n (valuePlace d) ≡ refuse k p = rw q at e in
+          let y : n ≡ k = cc in
+          let z : valuePlace d ≡ p = cc in
+          (subst (OneOf valueNumbers) y (subst Small q t .holds), omega arith)
 
-  -- ---- the entry
-
-  pub entry-place : entryOf s ≡ refuse k p → p ≤ length s
+  entry-met : entryOf s ≡ refuse k p → Met entryNumbers s k p
   unfolding entryOf settled
-  entry-place e = on (formOf s) refl e
+  entry-met e = on (formOf s) refl e
     where
       start-or : (b : Bool) (j : ℕ) → j ≤ length s → cond b j 0 ≤ length s
       start-or true j h = h
       start-or false j h = omega arith
 
-      on : (a : Ans Form) → formOf s ≡ a → settled s a ≡ refuse k p → p ≤ length s
+      on : (a : Ans Form) → formOf s ≡ a → settled s a ≡ refuse k p → Met entryNumbers s k p
       on (To m f) q e =
-          judged-place 1 m (f .details) m _ (subst (Reach (length s) 1) q (form-reach s) .ends .1) (form-placed s m f q .0) e
-      on Miss q e = let z : _≡_ {A = ℕ} 0 p = cc in omega arith
+          let w = judged-met 1 m (f .details) m _ (subst (Reach (length s) 1) q (form-reach s) .ends .1) (form-placed s m f q .0) e in (inr (inr (inr (w .0))), w .1)
+      on Miss q e =
+          let y : k ≡ 5 = cc in
+          let z : _≡_ {A = ℕ} 0 p = cc in
+          (inr (inr (inl y)), omega arith)
       on (Hard i j) q e =
+          let r = subst (Reach (length s) 1) q (form-reach s) .ends in
+          let y : i ≡ k = cc in
           let z : _≡_ {A = ℕ} (cond (eqb i deepNumber) j 0) p = cc in
-          omega (arith, start-or (eqb i deepNumber) j (subst (Reach (length s) 1) q (form-reach s) .ends))
+          (subst (OneOf entryNumbers) y (reading-number i (r .1)), omega (arith, start-or (eqb i deepNumber) j (r .0)))
+
+  pub entry-number : entryOf s ≡ refuse k p → OneOf entryNumbers k
+  entry-number e = entry-met e .0
+
+  pub entry-place : entryOf s ≡ refuse k p → p ≤ length s
+  entry-place e = entry-met e .1

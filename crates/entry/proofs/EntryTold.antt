@@ -17,7 +17,7 @@ use Rattle.text.specs.declared.Read.{Read}
 use Rattle.text.specs.Answer.{Ans, To, Miss, Hard, _then_, _and_, _else_, must}
 use Rattle.text.specs.Leaves.{token, date, gap, hardGap, word}
 use Rattle.text.proofs.TestLaws.{absurd-bool, and-left, and-right}
-use Rattle.text.proofs.Joins.{Reach}
+use Rattle.text.proofs.Joins.{wordGap, Reach}
 use Rattle.text.proofs.TokenEnds.{date-reach, hard-gap-reach}
 use Rattle.text.proofs.DayLaws.{date-there}
 use Rattle.text.specs.Refusals.{wordGapNumber}
@@ -145,7 +145,7 @@ module _ (s : List ℕ) where
   unfolding directive
   directive-tells =
       then-tells (length s) 10 (date s 0) _ (date-reach s 0 (omega arith)) (λ e d q p₁ q₁.
-      then-tells (length s) (e + 1) (hardGap {A = Detail} wordGapNumber s e) _ (hard-gap-reach s e wordGapNumber q₁) (λ g x z p₂ q₂.
+      then-tells (length s) (e + 1) (hardGap {A = Detail} wordGapNumber s e) _ (hard-gap-reach s e wordGap q₁) (λ g x z p₂ q₂.
       let ten = date-there s 0 e d q .1 in
       dateless-tells d g (q ∙ ap (λ (i : ℕ). To i d) ten) (gap-blanks wordGapNumber e g x z ∙ ap (blanks s) ten) (omega arith) q₂))
 

@@ -1,6 +1,9 @@
--- A property of each thing in a list: of two lists, and of another property that follows.
+-- A property of each thing in a list: of two lists, and of another property that follows. A number that is one of two
+-- lists.
+use Prim.Native.Nat.{ℕ}
+use mathlib.Core.Logic.{inl, inr}
 use mathlib.Core.List.{List, [], _∷_, _++_}
-use Rattle.text.specs.Every.{Every}
+use Rattle.text.specs.Every.{Every, OneOf}
 
 module _ {A : Type 0} (P : A → Type 0) where
   pub every-append : (xs ys : List A) → Every P xs → Every P ys → Every P (xs ++ ys)
@@ -18,3 +21,12 @@ module _ {A : Type 0} (P : A → Type 0) where
 pub every-map : {A : Type 0} {P Q : A → Type 0} → ((x : A) → P x → Q x) → (xs : List A) → Every P xs → Every Q xs
 every-map f [] h = tt
 every-map f (x ∷ xs) h = (f x (h .0), every-map f xs (h .1))
+
+pub one-left : (ms ns : List ℕ) (n : ℕ) → OneOf ms n → OneOf (ms ++ ns) n
+one-left [] ns n h = absurd h
+one-left (m ∷ ms) ns n (inl e) = inl e
+one-left (m ∷ ms) ns n (inr h) = inr (one-left ms ns n h)
+
+pub one-right : (ms ns : List ℕ) (n : ℕ) → OneOf ns n → OneOf (ms ++ ns) n
+one-right [] ns n h = h
+one-right (m ∷ ms) ns n h = inr (one-right ms ns n h)

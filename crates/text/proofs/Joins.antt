@@ -1,18 +1,38 @@
 -- Laws of the joins of readers, over their answers alone.
---     Reach   what is read ends at i or after it, and within n; a refusal stands within n
+--     Reach   what is read ends at i or after it, and within n; a refusal stands within n, with one of these numbers
 use Prim.Native.Nat.{ℕ, zero, suc, _≤_}
 use native.Mathlib.Omega.{arith}
 use mathlib.Core.Path.{_≡_, refl, ap}
 use mathlib.Core.Bool.{Bool, true, false, cond}
-use mathlib.Core.List.{List, [], _++_, append-assoc}
+use mathlib.Core.Logic.{inl, inr}
+use mathlib.Core.List.{List, [], _∷_, _++_, append-assoc}
+use Rattle.text.specs.Every.{OneOf}
+use Rattle.text.specs.Refusals.{deepNumber, requiredNumber, wordGapNumber, secondPartNumber}
 use Rattle.text.specs.Answer.{Ans, To, Miss, Hard, _then_, must, _else_, more, _and_, maybe, many}
+
+-- ---- the numbers by which a reading refuses
+
+abbrev pub readingNumbers : List ℕ
+readingNumbers = deepNumber ∷ requiredNumber ∷ wordGapNumber ∷ secondPartNumber ∷ []
+
+pub deep : OneOf readingNumbers deepNumber
+deep = inl refl
+
+pub required : OneOf readingNumbers requiredNumber
+required = inr (inl refl)
+
+pub wordGap : OneOf readingNumbers wordGapNumber
+wordGap = inr (inr (inl refl))
+
+pub secondPart : OneOf readingNumbers secondPartNumber
+secondPart = inr (inr (inr (inl refl)))
 
 -- ---- Reach
 
 abbrev pub Ends : {A : Type 0} → ℕ → ℕ → Ans A → Type 0
 Ends n i (To j x) = (i ≤ j) × (j ≤ n)
 Ends n i Miss = Unit {0}
-Ends n i (Hard k p) = p ≤ n
+Ends n i (Hard k p) = (p ≤ n) × OneOf readingNumbers k
 
 pub record Reach {A : Type 0} (n i : ℕ) (a : Ans A) : Type 0 where
   pub ends : Ends n i a
@@ -23,8 +43,8 @@ to-reach n i j x h l = record { ends = (h, l) }
 pub miss-reach : {A : Type 0} (n i : ℕ) → Reach {A = A} n i Miss
 miss-reach n i = record { ends = tt }
 
-pub hard-reach : {A : Type 0} (n i k p : ℕ) → p ≤ n → Reach {A = A} n i (Hard k p)
-hard-reach n i k p h = record { ends = h }
+pub hard-reach : {A : Type 0} (n i : ℕ) {k : ℕ} (w : OneOf readingNumbers k) (p : ℕ) → p ≤ n → Reach {A = A} n i (Hard k p)
+hard-reach n i w p h = record { ends = (h, w) }
 
 -- a choice by a test, where f makes an answer of what is chosen
 pub cond-reach : {R A : Type 0} (f : R → Ans A) (n i : ℕ) (b : Bool) (x y : R)
@@ -37,19 +57,19 @@ pub then-reach : {A B : Type 0} (n i k : ℕ) (a : Ans A) (g : ℕ → A → Ans
 unfolding _then_
 then-reach n i k (To j x) g r f = f j x (r .ends .0) (r .ends .1)
 then-reach n i k Miss g r f = miss-reach n k
-then-reach n i k (Hard l p) g r f = hard-reach n k l p (r .ends)
+then-reach n i k (Hard l p) g r f = hard-reach n k (r .ends .1) p (r .ends .0)
 
 module _ {A : Type 0} (n : ℕ) where
   pub reach-from : (i j : ℕ) (a : Ans A) → j ≤ i → Reach n i a → Reach n j a
   reach-from i j (To k x) h r = record { ends = omega arith }
   reach-from i j Miss h r = miss-reach n j
-  reach-from i j (Hard k p) h r = hard-reach n j k p (r .ends)
+  reach-from i j (Hard k p) h r = hard-reach n j (r .ends .1) p (r .ends .0)
 
-  pub must-reach : (i m at : ℕ) (a : Ans A) → at ≤ n → Reach n i a → Reach n i (must m at a)
+  pub must-reach : (i : ℕ) {m : ℕ} (w : OneOf readingNumbers m) (at : ℕ) (a : Ans A) → at ≤ n → Reach n i a → Reach n i (must m at a)
   unfolding must
-  must-reach i m at (To k x) h r = r
-  must-reach i m at Miss h r = hard-reach n i m at h
-  must-reach i m at (Hard k p) h r = r
+  must-reach i w at (To k x) h r = r
+  must-reach i w at Miss h r = hard-reach n i w at h
+  must-reach i w at (Hard k p) h r = r
 
   pub else-reach : (i : ℕ) (a b : Ans A) → Reach n i a → Reach n i b → Reach n i (a else b)
   unfolding _else_
@@ -69,7 +89,7 @@ module _ {A : Type 0} (n : ℕ) where
   unfolding _and_
   and-reach i k (To j xs) g r f = more-reach k xs (g j) (f j (r .ends .0) (r .ends .1))
   and-reach i k Miss g r f = miss-reach n k
-  and-reach i k (Hard l p) g r f = hard-reach n k l p (r .ends)
+  and-reach i k (Hard l p) g r f = hard-reach n k (r .ends .1) p (r .ends .0)
 
   pub maybe-reach : (i at : ℕ) (a : Ans (List A)) → i ≤ at → at ≤ n → Reach n i a → Reach n i (maybe at a)
   unfolding maybe

@@ -7,6 +7,7 @@ use mathlib.Core.List.{List, [], _∷_}
 use borrow.Author.Tests.{eqb-true, ltb-true, leb-true}
 use lib.Dec.{eqb, leb, ltb}
 use lib.ListN.{length, drop, getD, length-drop}
+use Rattle.text.specs.Every.{OneOf}
 use Rattle.text.specs.Bytes.{isBlank, isCapital, isDigit, inComment, inAccount, inCurrency, inTag, inLink, startsPart}
 use Rattle.text.specs.Run.{runFrom, runTo, blanks}
 use Rattle.text.specs.Lines.{gapAt, commaAt, commentEnd, eolAt, lineEndAt, emptyAt}
@@ -24,7 +25,7 @@ use Rattle.text.specs.declared.account.AccountRead.{AccountRead}
 use Rattle.text.specs.declared.date.Dated.{Dated}
 use Rattle.text.proofs.TestLaws.{and-right}
 use Rattle.text.proofs.Steps.{byte-within, such-within, run-from, run-within}
-use Rattle.text.proofs.Joins.{Reach, to-reach, miss-reach, hard-reach, must-reach, cond-reach}
+use Rattle.text.proofs.Joins.{readingNumbers, secondPart, Reach, to-reach, miss-reach, hard-reach, must-reach, cond-reach}
 use Rattle.text.proofs.StringSame.{string-ahead, string-ends}
 use Rattle.text.proofs.Compared.{word-compares, shape-compares, compared-length}
 
@@ -93,9 +94,9 @@ module _ {A : Type 0} (s : List ℕ) (at : ℕ) where
       let l = such-within (λ x. eqb x 44) s b (getD s b 0) refl refl e in
       omega (arith, run-reach isBlank s at h, run-reach isBlank s (b + 1) (omega arith)))
 
-  pub hard-gap-reach : (n : ℕ) → at ≤ length s → Reach (length s) (at + 1) (hardGap {A = A} n s at)
+  pub hard-gap-reach : {n : ℕ} (w : OneOf readingNumbers n) → at ≤ length s → Reach (length s) (at + 1) (hardGap {A = A} n s at)
   unfolding hardGap
-  hard-gap-reach n h = must-reach (length s) (at + 1) n at (gap s at) h (gap-reach h)
+  hard-gap-reach w h = must-reach (length s) (at + 1) w at (gap s at) h (gap-reach h)
 
   pub line-reach : at ≤ length s → Reach (length s) at (lineEnd {A = A} s at)
   unfolding lineEnd
@@ -128,7 +129,7 @@ module _ {A : Type 0} (s : List ℕ) (at : ℕ) where
       let r = run-reach inAccount s (at + 1) (omega arith) in
       let q = parts-from (drop j s) j in
       cond-reach (named secondPartNumber at) (length s) (at + 1) (partFollows s j) (AccountRead.To (partsFrom (drop j s) j)) AccountRead.Hard
-      (λ _. to-reach (length s) (at + 1) (partsFrom (drop j s) j) [] (omega arith) (omega (arith, length-drop j s))) (λ _. hard-reach (length s) (at + 1) secondPartNumber at (omega arith)))
+      (λ _. to-reach (length s) (at + 1) (partsFrom (drop j s) j) [] (omega arith) (omega (arith, length-drop j s))) (λ _. hard-reach (length s) (at + 1) secondPart at (omega arith)))
       (λ _. miss-reach (length s) (at + 1))
 
   pub currency-reach : Reach (length s) (at + 1) (currency {A = A} s at)

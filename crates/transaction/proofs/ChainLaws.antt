@@ -8,7 +8,7 @@ use Rattle.text.specs.Answer.{To, Miss, Hard, must, more, _and_}
 use Rattle.text.specs.Leaves.{token, lineEnd}
 use Rattle.text.specs.Lines.{lineEndAt}
 use Rattle.text.specs.declared.Read.{Read}
-use Rattle.text.proofs.Joins.{Reach, and-assoc, and-reach, must-reach, reach-from}
+use Rattle.text.proofs.Joins.{required, Reach, and-assoc, and-reach, must-reach, reach-from}
 use Rattle.text.proofs.TokenEnds.{line-reach}
 use Rattle.text.specs.Refusals.{requiredNumber}
 use Rattle.amount.specs.Details.{Rows}
@@ -162,7 +162,7 @@ module _ (s : List ℕ) where
       let N = length s in
       and-reach N a a (textsOf s a) _ (texts-of-reach s a h) (λ b p₂ q₂.
       and-reach N b a (marks s b) _ (marks-reach s b q₂) (λ c p₃ q₃.
-      and-reach N c a (must requiredNumber c (lineEnd s c)) _ (must-reach N c requiredNumber c _ q₃ (line-reach s c q₃)) (λ d p₄ q₄.
+      and-reach N c a (must requiredNumber c (lineEnd s c)) _ (must-reach N c required c _ q₃ (line-reach s c q₃)) (λ d p₄ q₄.
       reach-from N d a (metadata s d) (omega arith) (metadata-reach s d q₄))))
 
   pub head-reach : (at : ℕ) → at ≤ length s → Reach (length s) at (headOf s at)
@@ -176,7 +176,7 @@ module _ (s : List ℕ) where
       let N = length s in
       and-fits N a a (textsOf s a) _ (texts-of-reach s a h) (fits-wide _ a _ (omega arith) (texts-of-fits s a h)) (λ b p₂ q₂.
       and-fits N b b (marks s b) _ (marks-reach s b q₂) (fits-wide _ b _ (omega arith) (marks-fits s b q₂)) (λ c p₃ q₃.
-      and-fits N c c (must requiredNumber c (lineEnd s c)) _ (must-reach N c requiredNumber c _ q₃ (line-reach s c q₃)) (must-fits c requiredNumber c _ (line-fits s c q₃)) (λ d p₄ q₄.
+      and-fits N c c (must requiredNumber c (lineEnd s c)) _ (must-reach N c required c _ q₃ (line-reach s c q₃)) (must-fits c requiredNumber c _ (line-fits s c q₃)) (λ d p₄ q₄.
       fits-wide _ d _ (omega arith) (metadata-fits s d q₄))))
 
   pub head-fits : (at : ℕ) → at ≤ length s → FitsFrom anyKinds s at (headOf s at)

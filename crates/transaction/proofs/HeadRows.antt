@@ -6,7 +6,7 @@ use mathlib.Core.List.{List, _++_}
 use lib.ListN.{length}
 use Rattle.text.specs.Answer.{To, Miss, Hard, _and_, more, must}
 use Rattle.text.specs.Leaves.{lineEnd}
-use Rattle.text.proofs.Joins.{Reach, must-reach}
+use Rattle.text.proofs.Joins.{required, Reach, must-reach}
 use Rattle.text.proofs.TokenEnds.{line-reach}
 use Rattle.text.specs.Refusals.{requiredNumber}
 use Rattle.amount.specs.declared.detail.Detail.{Detail}
@@ -54,7 +54,7 @@ module _ (s : List ℕ) where
       and-others N at (opening s at) _ (opening-reach s at h) (fits-others headKinds (λ k o. (omega (arith, o), omega (arith, o), λ e. omega (arith, o))) at _ (opening-fits s at h)) (λ a q₁.
       and-others N a (textsOf s a) _ (texts-of-reach s a q₁) (fits-others partKinds below a _ (texts-of-fits s a q₁)) (λ b q₂.
       and-others N b (marks s b) _ (marks-reach s b q₂) (fits-others partKinds below b _ (marks-fits s b q₂)) (λ c q₃.
-      and-others N c (must requiredNumber c (lineEnd s c)) _ (must-reach N c requiredNumber c _ q₃ (line-reach s c q₃)) (fits-others partKinds below c _ (must-fits c requiredNumber c _ (line-fits s c q₃))) (λ d q₄.
+      and-others N c (must requiredNumber c (lineEnd s c)) _ (must-reach N c required c _ q₃ (line-reach s c q₃)) (fits-others partKinds below c _ (must-fits c requiredNumber c _ (line-fits s c q₃))) (λ d q₄.
       fits-others metaKinds above d _ (metadata-fits s d q₄)))))
 
 -- a transaction at g that was read to n: its head, to e, and its body

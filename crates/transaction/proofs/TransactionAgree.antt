@@ -14,7 +14,7 @@ use Rattle.text.specs.Answer.{To, Miss, Hard, must, _else_, more, _and_}
 use Rattle.text.specs.Leaves.{token, gap, string, tag, link, lineEnd}
 use Rattle.text.proofs.Steps.{run-stops, run-ends}
 use Rattle.text.proofs.InLine.{hasLF, start-not, start-bounds}
-use Rattle.text.proofs.Joins.{Reach, reach-from, must-reach, and-reach}
+use Rattle.text.proofs.Joins.{required, Reach, reach-from, must-reach, and-reach}
 use Rattle.text.proofs.Alike.{Same, Upto, upto, both-to, to-same, miss-same, same-below, else-alike, and-alike, many-alike}
 use Rattle.text.proofs.SharedLines.{Shared, told, blanks-alike, gap-alike, tag-alike, link-alike, word-alike}
 use Rattle.text.specs.Boundaries.{isStart}
@@ -100,7 +100,7 @@ rest-reach : (s : List ℕ) (at : ℕ) → at ≤ length s → Reach (length s) 
 rest-reach s at h =
     let n = length s in
     and-reach n at at (marks s at) _ (marks-reach s at h) (λ c p₁ q₁.
-    and-reach n c at (must requiredNumber c (lineEnd s c)) _ (must-reach n c requiredNumber c _ q₁ (line-reach s c q₁)) (λ d p₂ q₂. reach-from n d at _ (omega arith) (lines-reach s d q₂)))
+    and-reach n c at (must requiredNumber c (lineEnd s c)) _ (must-reach n c required c _ q₁ (line-reach s c q₁)) (λ d p₂ q₂. reach-from n d at _ (omega arith) (lines-reach s d q₂)))
 
 rest-sure : (s : List ℕ) (at : ℕ) → Sure (rest s at)
 unfolding marks
@@ -196,7 +196,7 @@ module _ (front t : List ℕ) (b : ℕ) (B : isStart b ≡ true) where
   rest-agree at h =
       and-agree (marks-same at h) (λ c h₁.
       let l : c ≤ N = omega (arith, longer front t b B) in
-      and-loose N (line-agree front t b B requiredNumber c h₁) (must-reach N c requiredNumber c _ l (line-reach S c l)) (λ d _ l. lines-agree d l)
+      and-loose N (line-agree front t b B requiredNumber c h₁) (must-reach N c required c _ l (line-reach S c l)) (λ d _ l. lines-agree d l)
       (λ j p q. lines-reach S j q) (λ j. sure-and _ (sure-metadata S j) (sure-body S)))
 
   pub transaction-agree : (at : ℕ) → at < M → Agrees M (suc M) false (transaction S at) (transaction X at)

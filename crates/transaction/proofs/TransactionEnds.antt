@@ -7,7 +7,7 @@ use Rattle.text.specs.Bytes.{bytes, isBlank}
 use Rattle.text.specs.Run.{blanks}
 use Rattle.text.specs.Answer.{must, maybe}
 use Rattle.text.specs.Leaves.{gap, lineEnd, string, tag, link}
-use Rattle.text.proofs.Joins.{Reach, to-reach, reach-from, must-reach, else-reach, and-reach}
+use Rattle.text.proofs.Joins.{required, Reach, to-reach, reach-from, must-reach, else-reach, and-reach}
 use Rattle.text.proofs.TokenEnds.{run-reach, gap-reach, line-reach, string-reach, tag-reach, link-reach, word-reach}
 use Rattle.text.specs.Refusals.{requiredNumber}
 use Rattle.posting.specs.Metadata.{metadata}
@@ -55,6 +55,6 @@ module _ (s : List ℕ) where
       and-reach N at at (opening s at) _ (opening-reach at h) (λ a p₁ q₁.
       and-reach N a at (maybe a (texts s a)) _ (optional-reach N a _ q₁ (texts-reach a q₁)) (λ b p₂ q₂.
       and-reach N b at (marks s b) _ (marks-reach b q₂) (λ c p₃ q₃.
-      and-reach N c at (must requiredNumber c (lineEnd s c)) _ (must-reach N c requiredNumber c _ q₃ (line-reach s c q₃)) (λ d p₄ q₄.
+      and-reach N c at (must requiredNumber c (lineEnd s c)) _ (must-reach N c required c _ q₃ (line-reach s c q₃)) (λ d p₄ q₄.
       and-reach N d at (metadata s d) _ (metadata-reach s d q₄) (λ e p₅ q₅.
       reach-from N e at (body s e) (omega arith) (body-reach s e q₅))))))
