@@ -13,3 +13,4 @@ pub mod JudgeLaws
 pub mod StrictScan
 pub mod PassLaws
 pub mod StrictProved
+pub mod PlainRefusals

@@ -89,7 +89,7 @@ strict-exactly s rs e =
 
 -- ---- rows stand in order of start
 
-plain-part : (s : List ℕ) (rs : List Row) → plain s ≡ accepted rs → part s ≡ accepted rs
+pub plain-part : (s : List ℕ) (rs : List Row) → plain s ≡ accepted rs → part s ≡ accepted rs
 unfolding plain
 plain-part s rs e = go (leb (length s) sizeLimit) e
   where
