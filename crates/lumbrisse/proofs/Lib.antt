@@ -3,3 +3,8 @@ pub mod Unique
 pub mod PacketLaws
 pub mod EditLaws
 pub mod AfreshLaws
+pub mod Demand1Reads
+pub mod Demand1Packets
+pub mod Demand1Items
+pub mod Demand1Work
+pub mod Demand1Laws
