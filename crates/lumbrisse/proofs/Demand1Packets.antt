@@ -72,10 +72,10 @@ module _ (s t : List ℕ) (k : ℕ) (b : List ℕ) (r : Reply) (u : List ℕ) wh
   m = length x
 
   abbrev Packet : Type 0
-  Packet = Answers writingNumbers (length s) (HasBytes x b u) (NoSpace x b (min m largest)) (u ≡ b) r
+  Packet = Answers writingNumbers (length s) (λ n. (refusing s k t ≡ 0) × HasBytes x b u n) (λ n. (refusing s k t ≡ 0) × NoSpace x b (min m largest) n) (u ≡ b) r
 
   pub packet-answers : PacketPromise s t k b r u
-      → Answers (10 ∷ 18 ∷ []) (length s) (HasBytes (packet s k t) b u) (NoSpace (packet s k t) b (min (length (packet s k t)) largest)) (u ≡ b) r
+      → Answers (10 ∷ 18 ∷ []) (length s) (λ n. (refusing s k t ≡ 0) × HasBytes (packet s k t) b u n) (λ n. (refusing s k t ≡ 0) × NoSpace (packet s k t) b (min (length (packet s k t)) largest) n) (u ≡ b) r
   unfolding written writtenLeft writtenReply
   packet-answers P = go (eqb (refusing s k t) 0) refl (P .reply) (P .bytes)
     where
@@ -83,7 +83,7 @@ module _ (s t : List ℕ) (k : ℕ) (b : List ℕ) (r : Reply) (u : List ℕ) wh
           → r ≡ writtenReply (cond q (cond (leb m (length b)) (Written.Bytes m) (Written.Refusal 9 (min m largest))) (Written.Refusal (refusing s k t) 0))
           → u ≡ cond q (cond (leb m (length b)) (x ++ drop m b) b) b → Packet
       go true q e f =
-          bytes-written writingNumbers (length s) (HasBytes x b u) (NoSpace x b (min m largest)) x b u (min m largest) r (λ h. h) (λ h. h)
+          bytes-written writingNumbers (length s) (λ n. (refusing s k t ≡ 0) × HasBytes x b u n) (λ n. (refusing s k t ≡ 0) × NoSpace x b (min m largest) n) x b u (min m largest) r (λ h. (eqb-true (refusing s k t) 0 q, h)) (λ h. (eqb-true (refusing s k t) 0 q, h))
           writtenReply (Written.Bytes m) (Written.Refusal 9 (min m largest)) refl refl e f
       go false q e f =
           refuses (refusing s k t) 0 e (at-front writingNumbers (length s) (refusing s k t) (refusing-listed s k t (eqb-false (refusing s k t) 0 q))) f

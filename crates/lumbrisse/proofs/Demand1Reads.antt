@@ -107,17 +107,17 @@ module _ (c t : List ℕ) (r : Reply) (u : List ℕ) where
   m = length x
 
   abbrev Content : Type 0
-  Content = Answers (10 ∷ []) (length c) (λ n. (valid c ≡ true) × HasBytes x t u n) (NoSpace x t m) (u ≡ t) r
+  Content = Answers (10 ∷ []) (length c) (λ n. (valid c ≡ true) × HasBytes x t u n) (λ n. (valid c ≡ true) × NoSpace x t m n) (u ≡ t) r
 
   pub content-answers : ContentPromise c t r u
-      → Answers (10 ∷ []) (length c) (λ n. (valid c ≡ true) × HasBytes (unescaped c) t u n) (NoSpace (unescaped c) t (length (unescaped c))) (u ≡ t) r
+      → Answers (10 ∷ []) (length c) (λ n. (valid c ≡ true) × HasBytes (unescaped c) t u n) (λ n. (valid c ≡ true) × NoSpace (unescaped c) t (length (unescaped c)) n) (u ≡ t) r
   unfolding contentAnswer contentLeft writtenReply
   content-answers P = go (valid c) refl (P .reply) (P .bytes)
     where
       go : (q : Bool) → valid c ≡ q → r ≡ writtenReply (cond q (cond (leb m (length t)) (Written.Bytes m) (Written.Refusal 9 m)) (Written.Refusal 10 0))
           → u ≡ cond q (cond (leb m (length t)) (x ++ drop m t) t) t → Content
       go true v e f =
-          bytes-written (10 ∷ []) (length c) (λ n. (valid c ≡ true) × HasBytes x t u n) (NoSpace x t m) x t u m r (λ h. (v, h)) (λ h. h)
+          bytes-written (10 ∷ []) (length c) (λ n. (valid c ≡ true) × HasBytes x t u n) (λ n. (valid c ≡ true) × NoSpace x t m n) x t u m r (λ h. (v, h)) (λ h. (v, h))
           writtenReply (Written.Bytes m) (Written.Refusal 9 m) refl refl e f
       go false v e f = refuses 10 0 e (at-front (10 ∷ []) (length c) 10 (inl refl)) f
 

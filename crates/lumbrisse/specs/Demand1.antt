@@ -36,7 +36,7 @@ use Rattle.access.specs.Tables.{inForce}
 use Rattle.access.specs.declared.tables.Force.{Force}
 use Rattle.access.specs.Spans.{spanText}
 use Rattle.bus.specs.Fields.{entryTag, detailTag, rowField, textPlace}
-use Rattle.bus.specs.Writing.{packet}
+use Rattle.bus.specs.Writing.{packet, refusing}
 use Rattle.bus.specs.Reading.{found, rowIn, textIn}
 use Rattle.bus.specs.declared.packet.Found.{Found}
 use Rattle.lumbrisse.specs.declared.reply.Reply.{Reply}
@@ -175,7 +175,7 @@ pub record Demand1 : Type 0 where
   pub recover : (s t : List ℕ) (r : Reply) (u : List ℕ) → TablePromise (recovered s) t r u → Reads (1 ∷ []) s (recovered s) t u r
   pub expression : (form : Form) (s : List ℕ) (r : Evaluated) → ExpressionPromise form s r → Evaluates form s r
   pub content : (c t : List ℕ) (r : Reply) (u : List ℕ) → ContentPromise c t r u
-      → Answers (10 ∷ []) (length c) (λ n. (valid c ≡ true) × HasBytes (unescaped c) t u n) (NoSpace (unescaped c) t (length (unescaped c))) (u ≡ t) r
+      → Answers (10 ∷ []) (length c) (λ n. (valid c ≡ true) × HasBytes (unescaped c) t u n) (λ n. (valid c ≡ true) × NoSpace (unescaped c) t (length (unescaped c)) n) (u ≡ t) r
   pub tagInForce : (s t : List ℕ) (k : ℕ) (tag : List ℕ) (r : Reply) → TagPromise s t k tag r → Answers (10 ∷ []) (length s) (TagSaid s t k tag) Never (Unit {0}) r
   pub span : (s : List ℕ) (a e : ℕ) (r : Part) → SpanPromise s a e r → PartOf s a e r
   -- document 02's
@@ -186,5 +186,5 @@ pub record Demand1 : Type 0 where
   pub totals : (s : List ℕ) (y m : ℕ) (t w v : List ℕ) (r : Reply) (t′ w′ v′ : List ℕ) → TotalsPromise s y m t w v r t′ w′ v′ → Totals s y m t w v r t′ w′ v′
   pub write : (s o w : List ℕ) (r : Reply) (o′ w′ : List ℕ) → WritePromise s o w r o′ w′ → Writes s o w r o′ w′
   pub packetWrite : (s t : List ℕ) (k : ℕ) (b : List ℕ) (r : Reply) (u : List ℕ) → PacketPromise s t k b r u
-      → Answers (10 ∷ 18 ∷ []) (length s) (HasBytes (packet s k t) b u) (NoSpace (packet s k t) b (min (length (packet s k t)) largest)) (u ≡ b) r
+      → Answers (10 ∷ 18 ∷ []) (length s) (λ n. (refusing s k t ≡ 0) × HasBytes (packet s k t) b u n) (λ n. (refusing s k t ≡ 0) × NoSpace (packet s k t) b (min (length (packet s k t)) largest) n) (u ≡ b) r
   pub packetNext : (p : List ℕ) (at : ℕ) (b c : List ℕ) (r : Handed) (b′ c′ : List ℕ) → StepPromise p at b c r b′ c′ → Steps p at b c r b′ c′
