@@ -8,6 +8,7 @@ use Rattle.edit.specs.Edits.{editing}
 use Rattle.ledger.proofs.PlainRefusals.{plain-refusal, strict-refusal}
 use Rattle.access.proofs.SingleRefusals.{evaluated-refusal}
 use Rattle.lumbrisse.specs.Demand1.{plainNumbers, Demand1}
+use Rattle.lumbrisse.specs.Demand1Requests.{Demand1Requests}
 use Rattle.lumbrisse.proofs.Demand1Reads.{recovered-refusal, editing-refusal, table-reads, content-answers, tag-answers, expression-evaluates, span-part}
 use Rattle.lumbrisse.proofs.Demand1Packets.{packet-answers, step-hands}
 use Rattle.lumbrisse.proofs.Demand1Work.{totals-answers, write-answers}
@@ -21,6 +22,12 @@ demand-1 =
       content = content-answers;
       tagInForce = tag-answers;
       span = span-part;
+    }
+
+-- of document 02's calls
+pub demand-1-requests : Demand1Requests
+demand-1-requests =
+    record {
       readStrict = λ s. table-reads (plainNumbers ++ (16 ∷ 17 ∷ [])) s (strict s) (strict-refusal s);
       recoverStrict = λ s. table-reads (1 ∷ []) s (recoveredStrictly s) (recovered-refusal Strict s);
       edit = λ s rows k a e y. table-reads (1 ∷ 10 ∷ []) s (editing s rows k a e y) (editing-refusal s rows k a e y);

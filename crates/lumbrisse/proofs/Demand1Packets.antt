@@ -25,7 +25,8 @@ use Rattle.lumbrisse.specs.declared.reply.Reply.{Reply}
 use Rattle.lumbrisse.specs.declared.reply.Handed.{Handed}
 use Rattle.lumbrisse.specs.Numbers.{writtenReply, handedOf}
 use Rattle.lumbrisse.specs.Promises.{PacketPromise, StepPromise}
-use Rattle.lumbrisse.specs.Demand1.{Answers, refuses, HasBytes, NoSpace, Steps, atEntry, atDetail, atEnd, noBuffer, badField}
+use Rattle.lumbrisse.specs.Demand1.{Answers, refuses, HasBytes, NoSpace}
+use Rattle.lumbrisse.specs.Demand1Requests.{Steps, atEntry, atDetail, atEnd, noBuffer, badField}
 use Rattle.lumbrisse.proofs.Demand1Reads.{at-front, bytes-written}
 
 -- ---- a packet written: what refuses is 10 or 18

@@ -24,7 +24,8 @@ use Rattle.rewrite.specs.declared.write.Answer as rewritten
 use Rattle.lumbrisse.specs.declared.reply.Reply.{Reply}
 use Rattle.lumbrisse.specs.Numbers.{replied, totalsReply, rewriteReply}
 use Rattle.lumbrisse.specs.Promises.{TotalsPromise, WritePromise}
-use Rattle.lumbrisse.specs.Demand1.{Answers, accepts, lacks, refuses, plainNumbers, HasBytes, NoSpace, Early, left, zeros, NoWork, HasItems, NoRoomForItems, Totals, Writes}
+use Rattle.lumbrisse.specs.Demand1.{Answers, accepts, lacks, refuses, plainNumbers, HasBytes, NoSpace}
+use Rattle.lumbrisse.specs.Demand1Requests.{Early, left, zeros, NoWork, HasItems, NoRoomForItems, Totals, Writes}
 use Rattle.lumbrisse.proofs.Demand1Reads.{at-front, accepted-denied, bytes-written}
 use Rattle.lumbrisse.proofs.Demand1Items.{large-within}
 

@@ -1,6 +1,7 @@
 pub mod Numbers
 pub mod Promises
 pub mod Demand1
+pub mod Demand1Requests
 pub mod Packets
 pub mod Edits
 pub mod Asked
