@@ -6,7 +6,7 @@ use native.Mathlib.Omega.{arith}
 use mathlib.Core.Path.{_≡_, refl, sym, _∙_, ap}
 use mathlib.Core.Bool.{Bool, true, false, cond, not, _&&_}
 use mathlib.Core.List.{List, [], _∷_, _++_}
-use borrow.Author.Tests.{eq-eqb, ne-eqb, eqb-true, eqb-false, not-false, le-leb, lt-leb}
+use borrow.Author.Tests.{eq-eqb, ne-eqb, eqb-true, eqb-false, not-true, not-false, le-leb, lt-leb}
 use lib.Dec.{eqb}
 use lib.ListN.{length, getD, set, drop, drop-of-length-le}
 use lib.Seq.{sets, drop-drop}
@@ -70,18 +70,13 @@ after i n = omega arith
 two : (i : ℕ) → i + 1 + 1 ≡ i + 2
 two i = omega arith
 
-neither : (x y : Bool) → (not x && not y) ≡ true → (x ≡ false) × (y ≡ false)
-neither true y e = (sym e, cc)
-neither false true e = (refl, sym e)
-neither false false e = (refl, refl)
-
-ordinary : (b : ℕ) → isOrdinary b ≡ true → (eqb b 34 ≡ false) × (eqb b 92 ≡ false)
+not-slash : (b : ℕ) → isOrdinary b ≡ true → eqb b 92 ≡ false
 unfolding isOrdinary
-ordinary b t = neither (eqb b 34) (eqb b 92) t
+not-slash b t = not-true (eqb b 92) (and-right (not (eqb b 34)) (not (eqb b 92)) t)
 
 ordinary-turn : (o : Bool) (b : ℕ) (c : List ℕ) (i m n : ℕ) → isOrdinary b ≡ true → left o (b ∷ c) i m n ≡ on (taken o b (getD c 0 0)) (b ∷ c) i m n
 unfolding left on taken strFrom unescaped
-ordinary-turn o b c i m n t = let k = ordinary b t in rw (t, k .0, k .1, after n (length (unescaped c)))
+ordinary-turn o b c i m n t = rw (t, not-slash b t, after n (length (unescaped c)))
 
 quote-turn : (o : Bool) (c : List ℕ) (i m n : ℕ) → i + 1 < m → left o (34 ∷ c) i m n ≡ on (taken o 34 (getD c 0 0)) (34 ∷ c) i m n
 unfolding left on taken isOrdinary strFrom endsAt
@@ -121,7 +116,7 @@ turn-at o b u c i m n k e f l = rw (e, f) (turn o b c i m n l)
 -- The loop that measures: the answer a is what is left at i, after n bytes; k bytes stand for the next one.
 module _ (a : Measured) (c : List ℕ) (o : Bool) (i n : ℕ) (v : a ≡ left o (drop i c) (i + 1) (length c + 2) n) where
   pub measure-end : length c ≤ i → i ≤ length c → Measured.Bytes n ≡ a
-  unfolding left strFrom endsAt unescaped
+  unfolding left strFrom isOrdinary endsAt unescaped
   measure-end h l = sym (v ∙ rw (drop-of-length-le c h, eq-eqb (i + 1 + 1) (length c + 2) (omega arith), add-zero))
 
   module _ (h : i < length c) (x y k : ℕ) (f : x ≡ getD c i 0) (g : y ≡ getD c (i + 1) 0) (e : k ≡ taken o x y) where

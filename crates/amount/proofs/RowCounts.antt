@@ -10,18 +10,20 @@ use borrow.Author.Tests.{eqb-true, ne-eqb}
 use lib.Dec.{eqb}
 use lib.ListN.{length, getD, length-append}
 use Rattle.decimal.specs.declared.Value.{Value}
-use Rattle.text.specs.Accounts.{accountAt}
 use Rattle.text.specs.Strings.{stringAt}
 use Rattle.text.specs.Tags.{markedAt}
 use Rattle.text.specs.Answer.{Ans, To, Miss, Hard, _then_, must, _else_, more, _and_, maybe, many}
-use Rattle.text.specs.Leaves.{token, named, gap, comma, lineEnd, emptyLine, string, account, currency, tag, link, word, byte, hardGap}
+use Rattle.text.specs.Leaves.{token, gap, comma, lineEnd, emptyLine, string, currency, tag, link, word, byte, hardGap}
+use Rattle.text.specs.Accounts.{account}
+use Rattle.text.specs.steps.Accounts.{accountAt, accountAnswer}
 use Rattle.text.specs.declared.Read.{Read}
 use Rattle.text.specs.declared.account.AccountRead.{AccountRead}
+use Rattle.text.proofs.AccountLaws.{account-answers}
 use Rattle.text.proofs.Joins.{Reach}
 use Rattle.text.proofs.TokenEnds.{string-reach}
 use Rattle.text.specs.Refusals.{secondPartNumber}
 use Rattle.amount.specs.declared.detail.Detail.{Detail}
-use Rattle.amount.specs.Details.{Rows, span, named as naming, valued, quoted}
+use Rattle.amount.specs.Details.{Rows, span, named, valued, quoted}
 pub use Rattle.amount.specs.Kinds.{flagKind, costKind, postingKind, refusalKind}
 use Rattle.amount.proofs.ValueSizes.{Small, zero-small}
 
@@ -89,7 +91,7 @@ module _ {s : List ℕ} {k a e : ℕ} where
   pub valued-filled : {p q : ℕ} {v : Value} → (k ≡ postingKind → ⊥) → p ≤ length s → q ≤ length s → Small v → Filled s (valued k a e p q v)
   valued-filled n p q h = record { second = within n p; q-in = q; small = h }
 
-  pub named-filled : {p q : ℕ} → (k ≡ postingKind → ⊥) → p ≤ length s → q ≤ length s → Filled s (naming k a e p q)
+  pub named-filled : {p q : ℕ} → (k ≡ postingKind → ⊥) → p ≤ length s → q ≤ length s → Filled s (named k a e p q)
   named-filled n p q = valued-filled n p q zero-small
 
 -- a row from k to j: an empty tag's starts where its reading ends, behind its mark
@@ -287,10 +289,10 @@ module _ (s : List ℕ) (at : ℕ) where
   empty-bare = token-bare _
 
   pub account-bare : Bare (account s at)
-  unfolding account named
-  account-bare = on (accountAt s at)
+  unfolding accountAnswer
+  account-bare = rw (account-answers s at) (on (accountAt s at))
     where
-      on : (r : AccountRead) → Bare (named secondPartNumber at r)
+      on : (r : AccountRead) → Bare (accountAnswer secondPartNumber at r)
       on (AccountRead.To j) = record { none = refl }
       on AccountRead.Miss = record { none = tt }
       on AccountRead.Hard = record { none = tt }

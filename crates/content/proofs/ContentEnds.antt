@@ -6,7 +6,8 @@ use lib.ListN.{length}
 use Rattle.text.specs.Bytes.{isBlank}
 use Rattle.text.specs.Run.{blanks}
 use Rattle.text.specs.Answer.{must, maybe, many}
-use Rattle.text.specs.Leaves.{account, currency, byte, comma, hardGap}
+use Rattle.text.specs.Leaves.{currency, byte, comma, hardGap}
+use Rattle.text.specs.Accounts.{account}
 use Rattle.text.proofs.Joins.{required, Reach, to-reach, reach-from, must-reach, then-reach, and-reach}
 use Rattle.text.proofs.TokenEnds.{run-reach, account-reach, currency-reach, byte-reach, comma-reach, hard-gap-reach}
 use Rattle.text.specs.Refusals.{requiredNumber}

@@ -7,7 +7,8 @@ use Rattle.text.specs.Every.{OneOf}
 use Rattle.text.specs.Bytes.{isBlank}
 use Rattle.text.specs.Run.{blanks}
 use Rattle.text.specs.Answer.{_and_, must, maybe}
-use Rattle.text.specs.Leaves.{account, currency, byte, comma, hardGap}
+use Rattle.text.specs.Leaves.{currency, byte, comma, hardGap}
+use Rattle.text.specs.Accounts.{account}
 use Rattle.text.proofs.Joins.{readingNumbers, required, must-reach}
 use Rattle.text.proofs.Inversions.{must-inv}
 use Rattle.text.proofs.TokenEnds.{run-reach, account-reach, currency-reach, byte-reach, comma-reach, hard-gap-reach}

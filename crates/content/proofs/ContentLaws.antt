@@ -4,13 +4,14 @@ use native.Mathlib.Omega.{arith}
 use mathlib.Core.Path.{_≡_, refl}
 use mathlib.Core.List.{List, [], _∷_}
 use Rattle.text.specs.Answer.{To, Miss, Hard, _then_, must, _and_}
-use Rattle.text.specs.Leaves.{token, named, gap, hardGap, string, account, currency}
+use Rattle.text.specs.Leaves.{token, gap, hardGap, string, currency}
+use Rattle.text.specs.steps.Accounts.{accountAt, accountAnswer}
 use Rattle.text.specs.Lines.{gapAt}
 use Rattle.text.specs.Strings.{stringAt}
-use Rattle.text.specs.Accounts.{accountAt}
 use Rattle.text.specs.Currencies.{currencyAt}
 use Rattle.text.specs.declared.Read.{Read}
 use Rattle.text.specs.declared.account.AccountRead.{AccountRead}
+use Rattle.text.proofs.AccountLaws.{account-answers}
 use Rattle.amount.specs.Details.{Rows, span, quoted}
 use Rattle.text.specs.Refusals.{requiredNumber, secondPartNumber}
 use Rattle.amount.specs.Expression.{expression}
@@ -38,18 +39,18 @@ module _ (base : ℕ) (s : List ℕ) (at : ℕ) (o : Out) (t : List ℕ) where
   module _ (x : AccountRead) (p : x ≡ accountAt s at) where
     pub account-to : (e : ℕ) (d : Detail) (m : Out) (u : List ℕ) → x ≡ AccountRead.To e → d ≡ span 25 at e → m ≡ noted o d → u ≡ pourAt (o .rows) (laid base d ∷ []) t
         → Did base (hardAccount s at) o t u (Ran.To e m)
-    unfolding hardAccount account
+    unfolding hardAccount
     account-to e d m u q w k l =
-        must-account-read base o t secondPartNumber at x (accountAt s at) p (λ e. To e (span 25 at e ∷ [])) requiredNumber at e u (Ran.To e m) q
+        must-account-read base o t s at x p (λ e. To e (span 25 at e ∷ [])) requiredNumber at e u (Ran.To e m) q
         (did-emit base o t e (span 25 at e) d m u k l w)
 
     pub account-none : (u : List ℕ) → x ≡ AccountRead.Miss → Did base (hardAccount s at) o t u (Ran.Hard requiredNumber at)
-    unfolding hardAccount account
-    account-none u q = must-account-miss base o t secondPartNumber at x (accountAt s at) p (λ e. To e (span 25 at e ∷ [])) requiredNumber at u q
+    unfolding hardAccount
+    account-none u q = must-account-miss base o t s at x p (λ e. To e (span 25 at e ∷ [])) requiredNumber at u q
 
     pub account-bad : (u : List ℕ) → x ≡ AccountRead.Hard → Did base (hardAccount s at) o t u (Ran.Hard secondPartNumber at)
-    unfolding hardAccount account
-    account-bad u q = must-account-hard base o t secondPartNumber at x (accountAt s at) p (λ e. To e (span 25 at e ∷ [])) requiredNumber at u q
+    unfolding hardAccount
+    account-bad u q = must-account-hard base o t s at x p (λ e. To e (span 25 at e ∷ [])) requiredNumber at u q
 
   module _ (x : Read) (p : x ≡ currencyAt s at) where
     pub currency-to : (e : ℕ) (d : Detail) (m : Out) (u : List ℕ) → x ≡ Read.To e → d ≡ span 31 at e → m ≡ noted o d → u ≡ pourAt (o .rows) (laid base d ∷ []) t
@@ -79,16 +80,16 @@ module _ (base : ℕ) (s : List ℕ) (at : ℕ) (o : Out) (t : List ℕ) where
 
 -- each makes one row
 
-makes-account : (k n at : ℕ) (x : AccountRead) → Makes 0 (must k at (named n at x))
-unfolding named must
+makes-account : (k n at : ℕ) (x : AccountRead) → Makes 0 (must k at (accountAnswer n at x))
+unfolding accountAnswer must
 makes-account k n at (AccountRead.To j) = makes j [] refl
 makes-account k n at AccountRead.Miss = refuses k at
 makes-account k n at AccountRead.Hard = refuses n at
 
 module _ (s : List ℕ) (at : ℕ) where
   pub account-one : Makes 1 (hardAccount s at)
-  unfolding hardAccount account
-  account-one = makes-and 0 1 _ (makes-account requiredNumber secondPartNumber at (accountAt s at)) (λ e. makes e _ refl)
+  unfolding hardAccount
+  account-one = rw (account-answers s at) (makes-and 0 1 _ (makes-account requiredNumber secondPartNumber at (accountAt s at)) (λ e. makes e _ refl))
 
   pub string-one : Makes 1 (hardString s at)
   unfolding hardString quoted string

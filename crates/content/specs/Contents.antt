@@ -5,7 +5,8 @@ use mathlib.Core.List.{List, [], _∷_}
 use lib.ListN.{length}
 use Rattle.text.specs.Run.{blanks}
 use Rattle.text.specs.Answer.{To, _then_, _and_, must, maybe, many}
-use Rattle.text.specs.Leaves.{gap, account, currency, byte, comma, hardGap}
+use Rattle.text.specs.Leaves.{gap, currency, byte, comma, hardGap}
+use Rattle.text.specs.Accounts.{account}
 use Rattle.text.specs.Refusals.{requiredNumber}
 use Rattle.amount.specs.Kinds.{accountKind, amountKind, toleranceKind, currencyKind, bookingKind, stringKind}
 use Rattle.amount.specs.Details.{Rows, span, valued, quoted}

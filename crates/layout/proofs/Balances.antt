@@ -15,7 +15,7 @@ use Rattle.decimal.specs.declared.Value.the-variants.{Known}
 use Rattle.text.specs.Bytes.{isBlank, bytes, isCapital, between}
 use Rattle.text.specs.Run.{blanks}
 use Rattle.text.specs.Answer.{To, Miss, _then_, _and_, must, maybe}
-use Rattle.text.specs.Leaves.{hardGap, byte, currency, account}
+use Rattle.text.specs.Leaves.{hardGap, byte, currency}
 use Rattle.text.proofs.Ats.{At, at-next, at-one, at-byte, at-more}
 use Rattle.text.proofs.Inversions.{and-inv, must-inv, then-inv, maybe-inv, to-inv, not-miss}
 use Rattle.text.proofs.TestLaws.{differ}

@@ -10,15 +10,17 @@ use Rattle.decimal.specs.declared.Decimal.{Decimal}
 use Rattle.decimal.specs.declared.Value.{Value}
 use Rattle.decimal.specs.declared.Value.the-variants.{Known}
 use Rattle.text.specs.Bytes.{isBlank, between}
-use Rattle.text.specs.Accounts.{accountAt}
 use Rattle.text.specs.Lines.{gapAt}
 use Rattle.text.specs.Strings.{stringAt}
 use Rattle.text.specs.Currencies.{currencyAt}
 use Rattle.text.specs.Answer.{To, _then_, _and_, more, must, maybe}
-use Rattle.text.specs.Leaves.{named, gap, hardGap, string, account, currency}
+use Rattle.text.specs.Leaves.{gap, hardGap, string, currency}
+use Rattle.text.specs.Accounts.{account}
+use Rattle.text.specs.steps.Accounts.{accountAt, accountAnswer}
 use Rattle.text.proofs.TokenEnds.{gap-reach}
 use Rattle.text.proofs.Ats.{At, at-next, at-one, at-more, at-place, at-in}
-use Rattle.text.proofs.Inversions.{and-inv, must-inv, then-inv, token-inv, to-inv, named-inv}
+use Rattle.text.proofs.Inversions.{and-inv, must-inv, then-inv, token-inv, to-inv, account-inv}
+use Rattle.text.proofs.AccountLaws.{account-answers}
 use Rattle.text.specs.Every.{Every}
 use Rattle.amount.specs.Details.{span, valued, Rows, quoted}
 use Rattle.text.specs.Refusals.{requiredNumber, secondPartNumber}
@@ -44,16 +46,15 @@ use Rattle.layout.proofs.Marks.{After, calm-currency, currency-blank, g
 module _ {s : List ℕ} {i : ℕ} where
   -- any account and what it leaves
   pub account-was : {t : List ℕ} {j : ℕ} {rs : List Detail} → At s i t → account s i ≡ To j rs → (rest : List ℕ) × At s j rest × Account (between s i j) × (rs ≡ [])
-  unfolding account
   account-was {t} {j} {rs} A h =
-      let n = named-inv secondPartNumber i (accountAt s i) j rs h in
+      let n = account-inv secondPartNumber i (accountAt s i) j rs (sym (account-answers s i) ∙ h) in
       let T = account-taken A (n .0) in
       let k = at-split (T .word) (T .rest) j (subst (At s i) (T .cut) A) (T .end) in
       (T .rest, k .1, subst Account (sym (k .0)) (T .good), n .1)
 
   pub account-is : (w post : List ℕ) → Account w → After post → At s i (w ++ post) → Reads s (account s i) [] post
-  unfolding account named
-  account-is w post C F A = none-reads (rw (account-again w post C (F .account) (F .colon) A)) (at-next w post A)
+  unfolding accountAnswer
+  account-is w post C F A = none-reads (rw (account-answers s i, account-again w post C (F .account) (F .colon) A)) (at-next w post A)
 
 abbrev pub IsText : (List ℕ → Type 0) → ℕ → List Item → Type 0
 IsText G k ms = (w : List ℕ) × G w × (ms ≡ textItem k w ∷ [])

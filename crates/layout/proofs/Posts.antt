@@ -13,7 +13,8 @@ use Rattle.decimal.specs.Exact.{twosOf}
 use Rattle.text.specs.Bytes.{isBlank, isSmall, isCapital, isDigit, startsPart, inAccount, inComment, between}
 use Rattle.text.specs.Run.{blanks, runTo}
 use Rattle.text.specs.Answer.{Ans, To, Miss, _then_, _and_, _else_, more, maybe}
-use Rattle.text.specs.Leaves.{gap, token, account, lineEnd, emptyLine}
+use Rattle.text.specs.Leaves.{gap, token, lineEnd, emptyLine}
+use Rattle.text.specs.Accounts.{account}
 use Rattle.text.specs.Lines.{gapAt, commentEnd, eolAt, lineEndAt, emptyAt}
 use Rattle.text.specs.Permitted.{permitted}
 use Rattle.text.specs.declared.Read.{Read}

@@ -7,10 +7,10 @@ use mathlib.Core.List.{List, [], _∷_, _++_, append-assoc}
 use borrow.Author.Tests.{ne-eqb, eq-eqb, eqb-true}
 use lib.Dec.{eqb}
 use lib.ListN.{length, getD, drop, length-append, List·getD-append}
-use Rattle.text.specs.Bytes.{isDigit, isCapital, isSmall, isEscaped, startsPart, inAccount, inCurrency, inTag}
+use Rattle.text.specs.Bytes.{isDigit, isCapital, isSmall, isOrdinary, isEscaped, startsPart, inAccount, inCurrency, inTag}
 use Rattle.text.specs.Run.{runFrom, runTo}
 use Rattle.text.specs.Strings.{strFrom, escFrom, stringAt}
-use Rattle.text.specs.Accounts.{partFollows, partsFrom, accountAt}
+use Rattle.text.specs.steps.Accounts.{partFollows, partsFrom, accountAt}
 use Rattle.text.specs.Currencies.{currencyAt}
 use Rattle.text.specs.Tags.{markedAt}
 use Rattle.text.specs.declared.Read.{Read}
@@ -18,7 +18,7 @@ use Rattle.text.specs.declared.account.AccountRead.{AccountRead}
 use Rattle.text.proofs.TestLaws.{absurd-bool, and-left, and-right}
 use Rattle.text.proofs.Ats.{At, at-next, at-one, at-byte, at-far}
 use Rattle.posting.specs.Metadata.{keyAt}
-use Rattle.text.proofs.AccountLaws.{colon-out, none-past}
+use Rattle.text.proofs.AccountLaws.{colon-out, none-past, part-account}
 use Rattle.layout.proofs.Texts.{at-split}
 use Rattle.layout.proofs.Numbers.{All}
 use Rattle.layout.proofs.Values.{run-at}
@@ -210,37 +210,37 @@ pub record Str (G : List ℕ → Type 0) (u : List ℕ) (i e : ℕ) : Type 0 whe
 str-step : (b : ℕ) (u : List ℕ) (o : Bool) (i e : ℕ) → strFrom o (b ∷ u) i ≡ Read.To e
     → (strFrom true u (i + 1) ≡ Read.To e → Str (Content true) u (i + 1) e) → (escFrom u (i + 1) ≡ Read.To e → Str Escape u (i + 1) e)
     → Str (Content o) (b ∷ u) i e
-unfolding strFrom
-str-step b u o i e h f g = go (eqb b 34) refl (eqb b 92) refl o refl h
+unfolding strFrom isOrdinary
+str-step b u o i e h f g = go (isOrdinary b) refl (eqb b 34) refl o refl h
   where
-    go : (q : Bool) → eqb b 34 ≡ q → (k : Bool) → eqb b 92 ≡ k → (c : Bool) → o ≡ c
-        → cond q (Read.To (i + 1)) (cond k (cond c (escFrom u (i + 1)) Read.Miss) (strFrom true u (i + 1))) ≡ Read.To e → Str (Content o) (b ∷ u) i e
-    go true q k l c m h = record {
-      xs = [];
-      ys = u;
-      cut = ap (λ z. z ∷ u) (eqb-true b 34 q);
-      end = read-to (i + 1) e h ∙ omega arith;
-      good = record { again = λ ys j. ap Read.To {x = j + 1} {y = j + 0 + 1} (omega arith) };
-    }
-    go false q true l false m h = absurd (let z : _≡_ {A = ℕ} 0 1 = cc in omega arith)
-    go false q true l true m h =
-        let r = g h in
-        record {
-          xs = b ∷ r .xs;
-          ys = r .ys;
-          cut = ap (λ z. b ∷ z) (r .cut);
-          end = r .end ∙ omega arith;
-          good = record { again = λ ys j. rw (q, l, m) (r .good .again ys (j + 1) ∙ ap Read.To {x = j + 1 + length (r .xs) + 1} {y = j + suc (length (r .xs)) + 1} (omega arith)) };
-        }
-    go false q false l c m h =
+    go : (k : Bool) → isOrdinary b ≡ k → (q : Bool) → eqb b 34 ≡ q → (c : Bool) → o ≡ c
+        → cond k (strFrom true u (i + 1)) (cond q (Read.To (i + 1)) (cond c (escFrom u (i + 1)) Read.Miss)) ≡ Read.To e → Str (Content o) (b ∷ u) i e
+    go true l q p c m h =
         let r = f h in
         record {
           xs = b ∷ r .xs;
           ys = r .ys;
           cut = ap (λ z. b ∷ z) (r .cut);
           end = r .end ∙ omega arith;
-          good = record { again = λ ys j. rw (q, l) (r .good .again ys (j + 1) ∙ ap Read.To {x = j + 1 + length (r .xs) + 1} {y = j + suc (length (r .xs)) + 1} (omega arith)) };
+          good = record { again = λ ys j. rw l (r .good .again ys (j + 1) ∙ ap Read.To {x = j + 1 + length (r .xs) + 1} {y = j + suc (length (r .xs)) + 1} (omega arith)) };
         }
+    go false l true p c m h = record {
+      xs = [];
+      ys = u;
+      cut = ap (λ z. z ∷ u) (eqb-true b 34 p);
+      end = read-to (i + 1) e h ∙ omega arith;
+      good = record { again = λ ys j. ap Read.To {x = j + 1} {y = j + 0 + 1} (omega arith) };
+    }
+    go false l false p true m h =
+        let r = g h in
+        record {
+          xs = b ∷ r .xs;
+          ys = r .ys;
+          cut = ap (λ z. b ∷ z) (r .cut);
+          end = r .end ∙ omega arith;
+          good = record { again = λ ys j. rw (l, p, m) (r .good .again ys (j + 1) ∙ ap Read.To {x = j + 1 + length (r .xs) + 1} {y = j + suc (length (r .xs)) + 1} (omega arith)) };
+        }
+    go false l false p false m h = absurd (let z : _≡_ {A = ℕ} 0 1 = cc in omega arith)
 
 esc-step : (b : ℕ) (u : List ℕ) (i e : ℕ) → escFrom (b ∷ u) i ≡ Read.To e → (strFrom false u (i + 1) ≡ Read.To e → Str (Content false) u (i + 1) e) → Str Escape (b ∷ u) i e
 unfolding escFrom
@@ -303,16 +303,6 @@ parts-none = record { within = tt; again = go }
     go : (ys : List ℕ) (i : ℕ) → inAccount (getD ys 0 0) ≡ false → eqb (getD ys 0 0) 58 ≡ false → partsFrom ys i ≡ i + 0
     go [] i h k = omega arith
     go (y ∷ ys) i h k = rw (h, k) (omega arith)
-
-part-account : (b : ℕ) → startsPart b ≡ true → inAccount b ≡ true
-unfolding startsPart inAccount
-part-account b e = go (isCapital b) (isSmall b) (isDigit b) (eqb b 45) e
-  where
-    go : (c l d m : Bool) → (c || d) ≡ true → (c || l || d || m) ≡ true
-    go true l d m e = refl
-    go false true true m e = refl
-    go false false true m e = refl
-    go false l false m e = absurd-bool e
 
 parts-on : (b : ℕ) (xs : List ℕ) → inParts b ≡ true → ((zs : List ℕ) → (inAccount b || (eqb b 58 && startsPart (getD (xs ++ zs) 0 0))) ≡ true) → Parts xs → Parts (b ∷ xs)
 unfolding partsFrom

@@ -6,9 +6,9 @@ use mathlib.Core.Bool.{Bool, true, false, cond}
 use mathlib.Core.List.{List, [], _∷_}
 use lib.ListN.{getD}
 use Rattle.text.specs.Answer.{Ans, To, Miss, Hard, _then_, _else_, _and_, maybe}
-use Rattle.text.specs.Leaves.{token, named, gap, account, lineEnd}
+use Rattle.text.specs.Leaves.{token, gap, lineEnd}
+use Rattle.text.specs.steps.Accounts.{accountAt}
 use Rattle.text.specs.Lines.{gapAt, lineEndAt}
-use Rattle.text.specs.Accounts.{accountAt}
 use Rattle.text.specs.declared.Read.{Read}
 use Rattle.text.specs.declared.account.AccountRead.{AccountRead}
 use Rattle.text.specs.Permitted.{sizeLimit}
@@ -147,24 +147,21 @@ module _ (base flag : ℕ) (s : List ℕ) (at : ℕ) (o : Out) (t : List ℕ) wh
   abbrev held : ℕ → details.Rows
   held e = To e (details.named 33 at e flag 0 ∷ []) and unitsEnd s
 
-  holder-is : holderOf flag s at ≡ (named secondPartNumber at (accountAt s at) and held)
-  unfolding holderOf account
-  holder-is = refl
-
   module _ (x : AccountRead) (p : x ≡ accountAt s at) where
     pub holder-read : (e : ℕ) (z : Detail) (m : Out) (w u : List ℕ) (r : Ran) → x ≡ AccountRead.To e → z ≡ details.named 33 at e flag 0 → m ≡ noted o z
         → w ≡ pourAt (o .rows) (laid base z ∷ []) t → Did base (unitsEnd s e) m w u r → Did base (holderOf flag s at) o t u r
-    unfolding _and_
+    unfolding holderOf _and_
     holder-read e z m w u r q k f g h =
-        rw holder-is
-        (account-read base o t secondPartNumber at x (accountAt s at) p held e u r q
-        (rw (← k) (did-more base o t (z ∷ []) (unitsEnd s e) m w u r (written base o t (z ∷ []) m w (wrote-one base o t z m w f g)) h)))
+        account-read base o t s at x p held e u r q
+        (rw (← k) (did-more base o t (z ∷ []) (unitsEnd s e) m w u r (written base o t (z ∷ []) m w (wrote-one base o t z m w f g)) h))
 
     pub holder-miss : x ≡ AccountRead.Miss → Did base (holderOf flag s at) o t t Ran.Miss
-    holder-miss q = rw holder-is (account-miss base o t secondPartNumber at x (accountAt s at) p held q)
+    unfolding holderOf
+    holder-miss q = account-miss base o t s at x p held q
 
     pub holder-hard : (u : List ℕ) → x ≡ AccountRead.Hard → Did base (holderOf flag s at) o t u (Ran.Hard secondPartNumber at)
-    holder-hard u q = rw holder-is (account-hard base o t secondPartNumber at x (accountAt s at) p held u q)
+    unfolding holderOf
+    holder-hard u q = account-hard base o t s at x p held u q
 
 pub ruleset holder-laws = (holder-room, holder-read, holder-miss, holder-hard)
 

@@ -7,7 +7,8 @@ use lib.ListN.{length, getD}
 use Rattle.text.specs.Bytes.{isSmall, isBlank, inTag}
 use Rattle.text.specs.Run.{runTo, blanks}
 use Rattle.text.specs.Answer.{To, Miss, _and_, maybe, many}
-use Rattle.text.specs.Leaves.{token, gap, lineEnd, date, account, currency, byte, comma}
+use Rattle.text.specs.Leaves.{token, gap, lineEnd, date, currency, byte, comma}
+use Rattle.text.specs.Accounts.{account}
 use Rattle.text.specs.declared.Read.{Read}
 use Rattle.text.proofs.Steps.{such-within}
 use Rattle.text.proofs.Joins.{Reach, to-reach, miss-reach, reach-from, cond-reach, else-reach, then-reach, and-reach, maybe-reach, many-reach}

@@ -8,7 +8,8 @@ use lib.ListN.{length, getD}
 use Rattle.text.specs.Bytes.{isBlank}
 use Rattle.text.specs.Run.{blanks}
 use Rattle.text.specs.Answer.{Ans, To, Miss, Hard, _then_, _and_, _else_, maybe}
-use Rattle.text.specs.Leaves.{gap, lineEnd, emptyLine, date, account, currency, byte, comma}
+use Rattle.text.specs.Leaves.{gap, lineEnd, emptyLine, date, currency, byte, comma}
+use Rattle.text.specs.Accounts.{account}
 use Rattle.text.proofs.Joins.{to-reach, reach-from}
 use Rattle.text.proofs.Inversions.{to-inv, else-inv, then-inv}
 use Rattle.text.proofs.DayLaws.{date-there}

@@ -7,7 +7,8 @@ use mathlib.Core.Path.{_≡_, refl, sym, _∙_, ap, subst}
 use mathlib.Core.List.{List, [], _∷_, _++_}
 use lib.ListN.{length}
 use Rattle.text.specs.Answer.{Ans, To, Miss, Hard, _then_, _and_, _else_, more, maybe}
-use Rattle.text.specs.Leaves.{gap, account, lineEnd, emptyLine}
+use Rattle.text.specs.Leaves.{gap, lineEnd, emptyLine}
+use Rattle.text.specs.Accounts.{account}
 use Rattle.text.proofs.Joins.{Reach}
 use Rattle.text.proofs.TokenEnds.{gap-reach, account-reach}
 use Rattle.amount.specs.declared.detail.Detail.{Detail}

@@ -9,7 +9,7 @@ use borrow.Author.Tests.{eqb-true, lt-leb, le-leb, lt-ltb}
 use lib.Dec.{eqb}
 use lib.ListN.{length, drop, getD, length-append}
 use lib.Seq.{getD-drop}
-use Rattle.text.specs.Bytes.{isDigit, isSmall, isEscaped}
+use Rattle.text.specs.Bytes.{isDigit, isSmall, isOrdinary, isEscaped}
 use Rattle.text.specs.Strings.{strFrom, escFrom, stringAt}
 use Rattle.text.specs.Answer.{To, Miss, more, _and_}
 use Rattle.text.specs.Leaves.{token, string}
@@ -43,14 +43,14 @@ mutual
 
   str-quote : (r : List ℕ) (ordinary : Bool) (i j : ℕ) → strFrom ordinary r i ≡ Read.To j → Quote r i j
   str-quote [] ordinary i j e = missed-to j e
-  str-quote (x ∷ r) ordinary i j e = go (eqb x 34) (eqb x 92) ordinary refl e (λ h. esc-quote r (i + 1) j h) (λ h. str-quote r true (i + 1) j h)
+  str-quote (x ∷ r) ordinary i j e = go (isOrdinary x) (eqb x 34) ordinary refl e (λ h. str-quote r true (i + 1) j h) (λ h. esc-quote r (i + 1) j h)
     where
-      go : (a b c : Bool) → eqb x 34 ≡ a → cond a (Read.To (i + 1)) (cond b (cond c (escFrom r (i + 1)) Read.Miss) (strFrom true r (i + 1))) ≡ Read.To j
-          → (escFrom r (i + 1) ≡ Read.To j → Quote r (i + 1) j) → (strFrom true r (i + 1) ≡ Read.To j → Quote r (i + 1) j) → Quote (x ∷ r) i j
-      go true b c p q f g = let k : i + 1 ≡ j = cc in let z : j - 1 - i ≡ 0 = omega arith in (omega arith, rw z (eqb-true x 34 p))
-      go false true true p q f g = quote-step x r i j (f q)
-      go false true false p q f g = missed-to j q
-      go false false c p q f g = quote-step x r i j (g q)
+      go : (a b c : Bool) → eqb x 34 ≡ b → cond a (strFrom true r (i + 1)) (cond b (Read.To (i + 1)) (cond c (escFrom r (i + 1)) Read.Miss)) ≡ Read.To j
+          → (strFrom true r (i + 1) ≡ Read.To j → Quote r (i + 1) j) → (escFrom r (i + 1) ≡ Read.To j → Quote r (i + 1) j) → Quote (x ∷ r) i j
+      go true b c p q f g = quote-step x r i j (f q)
+      go false true c p q f g = let k : i + 1 ≡ j = cc in let z : j - 1 - i ≡ 0 = omega arith in (omega arith, rw z (eqb-true x 34 p))
+      go false false true p q f g = quote-step x r i j (g q)
+      go false false false p q f g = missed-to j q
 
   esc-quote : (r : List ℕ) (i j : ℕ) → escFrom r i ≡ Read.To j → Quote r i j
   esc-quote [] i j e = missed-to j e

@@ -6,7 +6,8 @@ use lib.Dec.{eqb}
 use lib.ListN.{length, getD}
 use Rattle.text.specs.Bytes.{isSmall}
 use Rattle.text.specs.Answer.{Ans, To, Miss, Hard, _then_, _and_, _else_, maybe, many}
-use Rattle.text.specs.Leaves.{gap, account, lineEnd, emptyLine}
+use Rattle.text.specs.Leaves.{gap, lineEnd, emptyLine}
+use Rattle.text.specs.Accounts.{account}
 use Rattle.amount.specs.Kinds.{amountKind, postingKind}
 use Rattle.amount.specs.Details.{Rows, named}
 use Rattle.amount.specs.Amounts.{amount}

@@ -3,9 +3,13 @@ use Prim.Native.Nat.{ℕ}
 use mathlib.Core.Path.{_≡_, refl}
 use mathlib.Core.List.{List, []}
 use Rattle.text.specs.Answer.{Ans, To, Miss, Hard, _then_, must, _and_, maybe}
-use Rattle.text.specs.Leaves.{token, named}
+use Rattle.text.specs.Leaves.{token}
+use Rattle.text.specs.Accounts.{account}
+use Rattle.text.specs.Refusals.{secondPartNumber}
+use Rattle.text.specs.steps.Accounts.{accountAt, accountAnswer}
 use Rattle.text.specs.declared.Read.{Read}
 use Rattle.text.specs.declared.account.AccountRead.{AccountRead}
+use Rattle.text.proofs.AccountLaws.{account-answers}
 use Rattle.amount.specs.Details.{Rows}
 use Rattle.row.specs.steps.Writing.{Did}
 use Rattle.row.specs.declared.writer.Out.{Out}
@@ -84,33 +88,33 @@ module _ (base : ℕ) (o : Out) (t : List ℕ) where
     unfolding token must
     must-token-end-miss n i u h = rw (← v, h) refl
 
-  -- ---- an account, whose missing second part is refusal n
+  -- ---- an account
 
-  module _ (n at : ℕ) (x y : AccountRead) (v : x ≡ y) (g : ℕ → Rows) where
-    pub account-read : (e : ℕ) (u : List ℕ) (q : Ran) → x ≡ AccountRead.To e → Did base (g e) o t u q → Did base (named n at y and g) o t u q
-    unfolding named
-    account-read e u q h = bare-read (named n at y) g e u q (rw (← v, h))
+  module _ (s : List ℕ) (at : ℕ) (x : AccountRead) (v : x ≡ accountAt s at) (g : ℕ → Rows) where
+    pub account-read : (e : ℕ) (u : List ℕ) (q : Ran) → x ≡ AccountRead.To e → Did base (g e) o t u q → Did base (account s at and g) o t u q
+    unfolding accountAnswer
+    account-read e u q h = bare-read (account s at) g e u q (rw (account-answers s at, ← v, h))
 
-    pub account-miss : x ≡ AccountRead.Miss → Did base (named n at y and g) o t t Ran.Miss
-    unfolding named
-    account-miss h = bare-miss (named n at y) g (rw (← v, h))
+    pub account-miss : x ≡ AccountRead.Miss → Did base (account s at and g) o t t Ran.Miss
+    unfolding accountAnswer
+    account-miss h = bare-miss (account s at) g (rw (account-answers s at, ← v, h))
 
-    pub account-hard : (u : List ℕ) → x ≡ AccountRead.Hard → Did base (named n at y and g) o t u (Ran.Hard n at)
-    unfolding named
-    account-hard u h = bare-hard (named n at y) g n at u (rw (← v, h))
+    pub account-hard : (u : List ℕ) → x ≡ AccountRead.Hard → Did base (account s at and g) o t u (Ran.Hard secondPartNumber at)
+    unfolding accountAnswer
+    account-hard u h = bare-hard (account s at) g secondPartNumber at u (rw (account-answers s at, ← v, h))
 
     pub must-account-read : (m i e : ℕ) (u : List ℕ) (q : Ran) → x ≡ AccountRead.To e → Did base (g e) o t u q
-        → Did base (must m i (named n at y) and g) o t u q
-    unfolding named must
-    must-account-read m i e u q h = bare-read (must m i (named n at y)) g e u q (rw (← v, h))
+        → Did base (must m i (account s at) and g) o t u q
+    unfolding accountAnswer must
+    must-account-read m i e u q h = bare-read (must m i (account s at)) g e u q (rw (account-answers s at, ← v, h))
 
-    pub must-account-miss : (m i : ℕ) (u : List ℕ) → x ≡ AccountRead.Miss → Did base (must m i (named n at y) and g) o t u (Ran.Hard m i)
-    unfolding named must
-    must-account-miss m i u h = bare-hard (must m i (named n at y)) g m i u (rw (← v, h))
+    pub must-account-miss : (m i : ℕ) (u : List ℕ) → x ≡ AccountRead.Miss → Did base (must m i (account s at) and g) o t u (Ran.Hard m i)
+    unfolding accountAnswer must
+    must-account-miss m i u h = bare-hard (must m i (account s at)) g m i u (rw (account-answers s at, ← v, h))
 
-    pub must-account-hard : (m i : ℕ) (u : List ℕ) → x ≡ AccountRead.Hard → Did base (must m i (named n at y) and g) o t u (Ran.Hard n at)
-    unfolding named must
-    must-account-hard m i u h = bare-hard (must m i (named n at y)) g n at u (rw (← v, h))
+    pub must-account-hard : (m i : ℕ) (u : List ℕ) → x ≡ AccountRead.Hard → Did base (must m i (account s at) and g) o t u (Ran.Hard secondPartNumber at)
+    unfolding accountAnswer must
+    must-account-hard m i u h = bare-hard (must m i (account s at)) g secondPartNumber at u (rw (account-answers s at, ← v, h))
 
 pub ruleset tokens = (
   token-read,

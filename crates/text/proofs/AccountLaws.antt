@@ -1,5 +1,5 @@
 -- The answers at accounts, each from what the code knows where it gives it.
-use Prim.Native.Nat.{ℕ, _+_, _-_, _≤_, _<_}
+use Prim.Native.Nat.{ℕ, zero, suc, _+_, _-_, _≤_, _<_}
 use native.Mathlib.Decide.{decLt}
 use native.Mathlib.Omega.{arith}
 use mathlib.Core.Path.{_≡_, refl, sym, _∙_}
@@ -10,11 +10,16 @@ use lib.Dec.{eqb, leb}
 use lib.ListN.{length, drop, getD, drop-of-length-le}
 use Rattle.text.specs.Bytes.{isCapital, isSmall, isDigit, inAccount, startsPart}
 use Rattle.text.specs.Run.{runTo}
-use Rattle.text.specs.Accounts.{partFollows, partsFrom, accountAt}
+use Rattle.text.specs.Refusals.{secondPartNumber}
+use Rattle.text.specs.Answer as answer
+use Rattle.text.specs.Answer.{Ans, must, _and_, more, maybe, many}
+use Rattle.text.specs.Leaves.{byte}
+use Rattle.text.specs.Accounts.{accountPart, nextPart, account}
+use Rattle.text.specs.steps.Accounts.{partFollows, partsFrom, accountAt, accountAnswer}
 use Rattle.text.specs.declared.account.AccountRead.the-variants.{To, Miss, Hard}
 use Rattle.text.specs.steps.Windows.{goesOn, firstStop}
-use Rattle.text.proofs.TestLaws.{or-left}
-use Rattle.text.proofs.Steps.{drop-step, head-drop, getD-past, run-on, run-stops, run-ends, run-out, run-same}
+use Rattle.text.proofs.TestLaws.{absurd-bool, or-left, and-left, and-right}
+use Rattle.text.proofs.Steps.{drop-step, head-drop, getD-past, run-on, run-stops, run-ends, run-from, run-out, run-same, such-within}
 use Rattle.text.proofs.WindowLaws.{first-says}
 
 -- ---- whether an account goes on
@@ -136,6 +141,16 @@ on-part : (b n : ℕ) → inAccount b ≡ true → goesOn b n ≡ true
 unfolding goesOn
 on-part b n e = rw e
 
+pub part-account : (b : ℕ) → startsPart b ≡ true → inAccount b ≡ true
+unfolding startsPart inAccount
+part-account b e = go (isCapital b) (isSmall b) (isDigit b) (eqb b 45) e
+  where
+    go : (c l d m : Bool) → (c || d) ≡ true → (c || l || d || m) ≡ true
+    go true l d m e = refl
+    go false true true m e = refl
+    go false false true m e = refl
+    go false l false m e = absurd-bool e
+
 -- the end of the parts is not before where they are read from
 parts-from : (s : List ℕ) (i : ℕ) → i ≤ partsFrom s i
 unfolding partsFrom
@@ -189,6 +204,18 @@ pub ruleset first-laws = (part-within, part-colon, account-next, part-next, part
 
 -- ---- an account
 
+-- the byte behind a part is none of one, and what is left there is what was left in the part
+past-part : (s : List ℕ) (i e : ℕ) → e ≡ runTo inAccount s i → inAccount (getD s e 0) ≡ false
+past-part s i e f = elim (decLt e (length s)) [ yes h ↦ run-out inAccount s i e f h | no h ↦ rw (getD-past s e (omega arith)) none-past ]
+
+part-left : (s : List ℕ) (i e : ℕ) → e ≡ runTo inAccount s i → partsFrom (drop i s) i ≡ partsFrom (drop e s) e
+part-left s = run-same inAccount s (λ (i : ℕ). partsFrom (drop i s) i) (λ i h o. parts-on s i h (on-part (getD s i 0) (getD s (i + 1) 0) o))
+
+-- so a part follows where the account goes on
+follow-on : (s : List ℕ) (e : ℕ) → inAccount (getD s e 0) ≡ false → goesOn (getD s e 0) (getD s (e + 1) 0) ≡ partFollows s e
+unfolding goesOn partFollows
+follow-on s e o = rw o
+
 pub account-past : (s : List ℕ) (at : ℕ) → length s ≤ at → Miss ≡ accountAt s at
 unfolding accountAt startsPart isCapital isDigit
 account-past s at h = rw (getD-past s at h)
@@ -202,33 +229,77 @@ module _ (s : List ℕ) (at : ℕ) (r : Bool) (p : r ≡ startsPart (getD s at 0
   module _ (q : r ≡ true) (e j : ℕ) (f : e ≡ runTo inAccount s (at + 1)) (w : j ≡ partsFrom (drop (at + 1) s) (at + 1)) where
     -- what is left at the first part's end
     rest : j ≡ partsFrom (drop e s) e
-    rest =
-        w
-        ∙ run-same
-        inAccount
-        s
-        (λ (i : ℕ). partsFrom (drop i s) i)
-        (λ i h o. parts-on s i h (on-part (getD s i 0) (getD s (i + 1) 0) o))
-        (at + 1)
-        e
-        f
+    rest = w ∙ part-left s (at + 1) e f
 
     follows : (t : Bool) → partFollows s e ≡ t → accountAt s at ≡ cond t (To j) Hard
     unfolding accountAt
     follows t u = let k = rest in cc
 
-    -- the byte at the first part's end is none of a part, so a part follows where the account goes on
-    part-out : inAccount (getD s e 0) ≡ false
-    part-out = elim (decLt e (length s)) [ yes h ↦ run-out inAccount s (at + 1) e f h | no h ↦ rw (getD-past s e (omega arith)) none-past ]
-
-    follow-on : goesOn (getD s e 0) (getD s (e + 1) 0) ≡ partFollows s e
-    unfolding goesOn partFollows
-    follow-on = rw part-out
+    goes-follows : goesOn (getD s e 0) (getD s (e + 1) 0) ≡ partFollows s e
+    goes-follows = follow-on s e (past-part s (at + 1) e f)
 
     pub account-read : e < j → To j ≡ accountAt s at
-    account-read l = sym (follows true (sym follow-on ∙ goes s e j rest l))
+    account-read l = sym (follows true (sym goes-follows ∙ goes s e j rest l))
 
     pub account-hard : j ≤ e → Hard ≡ accountAt s at
-    account-hard l = sym (follows false (sym follow-on ∙ ends s e j rest l))
+    account-hard l = sym (follows false (sym goes-follows ∙ ends s e j rest l))
 
 pub ruleset account-laws = (account-read, account-hard, account-no, account-past)
+
+-- ---- rule 6's parts end where the bytes do
+
+-- the end of a part behind a place and a `:` there
+abbrev nextEnd : List ℕ → ℕ → ℕ
+nextEnd s i = runTo inAccount s (i + 1 + 1)
+
+-- from behind one part on: behind the next is left what was left before it
+module _ (s : List ℕ) (i : ℕ) (o : inAccount (getD s i 0) ≡ false) where
+  next-left : partFollows s i ≡ true → partsFrom (drop i s) i ≡ partsFrom (drop (nextEnd s i) s) (nextEnd s i)
+  unfolding partFollows
+  next-left e =
+      let n = part-account (getD s (i + 1) 0) (and-right (eqb (getD s i 0) 58) (startsPart (getD s (i + 1) 0)) e) in
+      let l = such-within inAccount s (i + 1) (getD s (i + 1) 0) none-past refl n in
+      parts-on s i (omega arith) (follow-on s i o ∙ e) ∙ parts-on s (i + 1) l (on-part (getD s (i + 1) 0) (getD s (i + 1 + 1) 0) n) ∙ part-left s (i + 1 + 1) _ refl
+
+  none-left : partFollows s i ≡ false → partsFrom (drop i s) i ≡ i
+  none-left e = elim (decLt i (length s)) [ yes h ↦ parts-off s i h (follow-on s i o ∙ e) | no h ↦ parts-past s i (omega arith) ]
+
+module _ {A : Type 0} (s : List ℕ) where
+  abbrev nextOf : Bool → ℕ → Ans (List A)
+  nextOf t i = cond t (answer.To (nextEnd s i) []) answer.Miss
+
+  next-is : (i : ℕ) → nextPart s i ≡ nextOf (partFollows s i) i
+  unfolding nextPart accountPart partFollows byte _and_ more
+  next-is i = go (eqb (getD s i 0) 58) (startsPart (getD s (i + 1) 0)) refl
+    where
+      go : (a b : Bool) → startsPart (getD s (i + 1) 0) ≡ b → (cond a (answer.To (i + 1) []) answer.Miss and λ j. accountPart {A = A} s j) ≡ nextOf (a && b) i
+      go true true e = rw e
+      go true false e = rw e
+      go false b e = refl
+
+  parts-many : (d i : ℕ) → length s ≤ i + d → inAccount (getD s i 0) ≡ false → many (nextPart {A = A} s) d i ≡ answer.To (partsFrom (drop i s) i) []
+  unfolding many maybe _and_ more
+  parts-many zero i h o = rw (parts-past s i (omega arith))
+  parts-many (suc d) i h o =
+      rw (next-is i) (go (partFollows s i) refl (parts-many d (nextEnd s i) (omega (arith, run-from inAccount s (i + 1 + 1) _ refl)) (past-part s (i + 1 + 1) _ refl)))
+    where
+      go : (t : Bool) → partFollows s i ≡ t → many (nextPart {A = A} s) d (nextEnd s i) ≡ answer.To (partsFrom (drop (nextEnd s i) s) (nextEnd s i)) []
+          → maybe i (nextOf t i and many (nextPart s) d) ≡ answer.To (partsFrom (drop i s) i) []
+      go true e u = rw (u, next-left s i o e)
+      go false e u = rw (none-left s i o e)
+
+  pub account-answers : (at : ℕ) → account s at ≡ accountAnswer {A = A} secondPartNumber at (accountAt s at)
+  unfolding account accountPart accountAt accountAnswer must _and_ more
+  account-answers at = go (startsPart (getD s at 0)) (runTo inAccount s (at + 1)) refl
+    where
+      -- after a first part that ends at e
+      second : (e : ℕ) → inAccount (getD s e 0) ≡ false → (t : Bool) → partFollows s e ≡ t
+          → more [] (must secondPartNumber at (nextOf t e) and λ f. many (nextPart s) (suc (length s)) f) ≡ accountAnswer secondPartNumber at (cond t (To (partsFrom (drop e s) e)) Hard)
+      second e o true u = rw (parts-many (suc (length s)) (nextEnd s e) (omega arith) (past-part s (e + 1 + 1) _ refl), next-left s e o u)
+      second e o false u = refl
+
+      go : (t : Bool) (e : ℕ) → e ≡ runTo inAccount s (at + 1)
+          → (cond t (answer.To e []) answer.Miss and λ e. must secondPartNumber at (nextPart s e) and λ f. many (nextPart s) (suc (length s)) f)
+          ≡ accountAnswer {A = A} secondPartNumber at (cond t (cond (partFollows s e) (To (partsFrom (drop e s) e)) Hard) Miss)
+      go true e f = rw (next-is e) (second e (past-part s (at + 1) e f) (partFollows s e) refl)
+      go false e f = refl

@@ -5,7 +5,8 @@ use mathlib.Core.Path.{_≡_, refl, _∙_, ap}
 use mathlib.Core.List.{List, [], _++_}
 use mathlib.Core.Logic.{_⊎_, inl, inr}
 use Rattle.text.specs.Answer.{Ans, To, Miss, Hard, _then_, _and_, _else_, more, must, maybe}
-use Rattle.text.specs.Leaves.{token, named}
+use Rattle.text.specs.Leaves.{token}
+use Rattle.text.specs.steps.Accounts.{accountAnswer}
 use Rattle.text.specs.declared.Read.{Read}
 use Rattle.text.specs.declared.account.AccountRead.{AccountRead}
 
@@ -55,11 +56,11 @@ module _ {A : Type 0} where
   token-inv (Read.To k) j x e = (cc, cc)
   token-inv Read.Miss j x e = not-miss e
 
-  pub named-inv : (n at : ℕ) (r : AccountRead) (j : ℕ) (x : List A) → named n at r ≡ To j x → (r ≡ AccountRead.To j) × (x ≡ [])
-  unfolding named
-  named-inv n at (AccountRead.To k) j x e = (cc, cc)
-  named-inv n at AccountRead.Miss j x e = not-miss e
-  named-inv n at AccountRead.Hard j x e = not-hard e
+  pub account-inv : (n at : ℕ) (r : AccountRead) (j : ℕ) (x : List A) → accountAnswer n at r ≡ To j x → (r ≡ AccountRead.To j) × (x ≡ [])
+  unfolding accountAnswer
+  account-inv n at (AccountRead.To k) j x e = (cc, cc)
+  account-inv n at AccountRead.Miss j x e = not-miss e
+  account-inv n at AccountRead.Hard j x e = not-hard e
 
 pub then-inv : {A B : Type 0} (a : Ans A) (g : ℕ → A → Ans B) (j : ℕ) (x : B) → (a then g) ≡ To j x → (i : ℕ) × (y : A) × (a ≡ To i y) × (g i y ≡ To j x)
 unfolding _then_

@@ -4,7 +4,8 @@ use mathlib.Core.Path.{_≡_, sym, _∙_}
 use mathlib.Core.Bool.{Bool, true, false}
 use mathlib.Core.List.{List}
 use lib.ListN.{length, getD}
-use Rattle.text.specs.Run.{runTo, inClass}
+use Rattle.text.specs.Run.{runTo}
+use Rattle.text.specs.steps.Classes.{inClass}
 use Rattle.text.specs.declared.run.Class.{Class}
 use Rattle.text.proofs.Steps.{run-on, run-stops, run-ends}
 

@@ -12,19 +12,21 @@ use Rattle.text.specs.Bytes.{isBlank, isCapital, isSmall, isDigit, inCom
 use Rattle.text.specs.Run.{runTo, blanks}
 use Rattle.text.specs.Lines.{gapAt, commaAt, commentEnd, eolAt, lineEndAt, emptyAt}
 use Rattle.text.specs.Dates.{likeShape, dateShape, two, dateIn, dateAt}
-use Rattle.text.specs.Accounts.{partFollows, partsFrom, accountAt}
 use Rattle.text.specs.Currencies.{currencyAt}
 use Rattle.text.specs.Words.{startsWith, wordAt}
 use Rattle.text.specs.Tags.{markedAt}
 use Rattle.text.specs.Refusals.{secondPartNumber}
 use Rattle.text.specs.Answer.{To, Miss}
-use Rattle.text.specs.Leaves.{token, named, dated, gap, comma, lineEnd, emptyLine, account, currency, tag, link, date, word, byte, hardGap}
+use Rattle.text.specs.Leaves.{token, dated, gap, comma, lineEnd, emptyLine, currency, tag, link, date, word, byte, hardGap}
+use Rattle.text.specs.Accounts.{account}
+use Rattle.text.specs.steps.Accounts.{partFollows, partsFrom, accountAt, accountAnswer}
 use Rattle.text.specs.declared.Read.{Read}
 use Rattle.text.specs.declared.account.AccountRead.{AccountRead}
 use Rattle.text.specs.declared.date.Dated.{Dated}
 use Rattle.text.proofs.TestLaws.{apart, or-left, or-right, and-left, and-right}
 use Rattle.text.proofs.Steps.{drop-step, head-drop, run-on, run-stops}
 use Rattle.text.proofs.InLine.{hasLF, no-lf}
+use Rattle.text.proofs.AccountLaws.{account-answers}
 use Rattle.text.proofs.Compared.{Compares, word-compares, shape-compares}
 use Rattle.text.proofs.Alike.{Alike, both-to, both-miss, both-hard, alike-map, cond-alike, if-alike, must-alike}
 
@@ -178,13 +180,13 @@ module _ {Q : Type 0} {s z : List ℕ} {K P : ℕ → ℕ → Type 0} (L : Share
           rw (drop-step s i (l .0), drop-step z j (l .1), head-drop s (i + 1), head-drop z (j + 1), next-same 58 startsPart refl S, byte-same S) (go i j S u _ refl)
 
   pub account-alike : {A : Type 0} {i j : ℕ} → K i j → Alike {A = List A} Q K (account s i) (account z j)
-  unfolding account accountAt named partFollows
+  unfolding accountAt accountAnswer partFollows
   account-alike {A} {i} {j} S =
-      rw (byte-same S) (cond-alike (named secondPartNumber i) (named secondPartNumber j) (startsPart (getD s i 0)) _ _ AccountRead.Miss AccountRead.Miss
+      rw (account-answers s i, account-answers z j, byte-same S) (cond-alike (accountAnswer secondPartNumber i) (accountAnswer secondPartNumber j) (startsPart (getD s i 0)) _ _ AccountRead.Miss AccountRead.Miss
       (λ e.
       let T = run-alike inAccount (no-lf .account) (step startsPart (no-lf .part) S e) in
       rw (next-same 58 startsPart refl T)
-      (cond-alike (named secondPartNumber i) (named secondPartNumber j) (partFollows s (runTo inAccount s (i + 1))) _ _ AccountRead.Hard AccountRead.Hard
+      (cond-alike (accountAnswer secondPartNumber i) (accountAnswer secondPartNumber j) (partFollows s (runTo inAccount s (i + 1))) _ _ AccountRead.Hard AccountRead.Hard
       (λ _. both-to _ _ [] [] (parts-alike T) (λ _. refl)) (λ _. both-hard secondPartNumber i j (told S))))
       (λ _. both-miss))
 

@@ -8,7 +8,7 @@ use mathlib.Core.List.{List}
 use borrow.Author.Tests.{eq-eqb, ne-eqb, lt-ltb, le-ltb}
 use lib.Dec.{eqb, ltb}
 use lib.ListN.{length, drop, getD, drop-of-length-le}
-use Rattle.text.specs.Bytes.{isEscaped}
+use Rattle.text.specs.Bytes.{isOrdinary, isEscaped}
 use Rattle.text.specs.Strings.{strFrom, escFrom}
 use Rattle.text.specs.declared.Read.{Read}
 use Rattle.text.specs.declared.Read.the-variants.{To, Miss}
@@ -21,7 +21,7 @@ str-start s at = rw (le-ltb at at (omega arith))
 -- ordinary byte stands before i if that is behind it.
 module _ (a : Read) (s : List ℕ) (start i : ℕ) (v : a ≡ strFrom (ltb start i) (drop i s) i) where
   quote : i < length s → getD s i 0 ≡ 34 → To (i + 1) ≡ a
-  unfolding strFrom
+  unfolding strFrom isOrdinary
   quote h q = sym (v ∙ rw (drop-step s i h, eq-eqb _ _ q))
 
   -- before the text's last byte
@@ -31,19 +31,19 @@ module _ (a : Read) (s : List ℕ) (start i : ℕ) (v : a ≡ strFrom (ltb start
 
     module _ (q : getD s i 0 ≡ 34 → ⊥) where
       pub str-next : (getD s i 0 ≡ 92 → ⊥) → start ≤ i → a ≡ strFrom (ltb start (i + 1)) (drop (i + 1) s) (i + 1)
-      unfolding strFrom
+      unfolding strFrom isOrdinary
       str-next b l = v ∙ rw (drop-step s i (omega arith), ne-eqb _ _ q, ne-eqb _ _ b, lt-ltb start (i + 1) (omega arith))
 
       -- a backslash
       module _ (b : getD s i 0 ≡ 92) where
         pub str-touch : i ≡ start → Miss ≡ a
-        unfolding strFrom
+        unfolding strFrom isOrdinary
         str-touch e = sym (v ∙ rw (drop-step s i (omega arith), b, e, le-ltb start start (omega arith)))
 
         -- r says whether the byte behind it may stand there
         module _ (r : Bool) (l : start ≤ i) (n : i ≡ start → ⊥) (u : r ≡ isEscaped (getD s (i + 1) 0)) where
           str-slash : a ≡ cond r (strFrom false (drop (i + 2) s) (i + 2)) Miss
-          unfolding strFrom escFrom
+          unfolding strFrom escFrom isOrdinary
           str-slash =
               v
               ∙ rw (drop-step s i (omega arith), b, lt-ltb start i (omega arith), drop-step s (i + 1) (omega arith), u, add-assoc i 1 1)
@@ -63,12 +63,12 @@ module _ (a : Read) (s : List ℕ) (start i : ℕ) (v : a ≡ strFrom (ltb start
     unfolding strFrom escFrom
     str-open q =
         let l : length s ≤ i + 1 = omega arith in
-        sym (v ∙ rw (drop-step s i (omega arith), ne-eqb _ _ q, drop-of-length-le s l) (go (eqb (getD s i 0) 92) (ltb start i)))
+        sym (v ∙ rw (drop-step s i (omega arith), ne-eqb _ _ q, drop-of-length-le s l) (go (isOrdinary (getD s i 0)) (ltb start i)))
       where
-        go : (b o : Bool) → cond b (cond o Miss Miss) Miss ≡ Miss
-        go true true = refl
-        go true false = refl
-        go false o = refl
+        go : (b o : Bool) → cond b Miss (cond o Miss Miss) ≡ Miss
+        go true o = refl
+        go false true = refl
+        go false false = refl
 
   -- and behind it
   pub str-past : length s - 1 ≤ i → (i ≡ length s - 1 → ⊥) → Miss ≡ a

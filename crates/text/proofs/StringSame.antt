@@ -9,7 +9,7 @@ use borrow.Author.Tests.{lt-leb, le-leb, leb-true, leb-false}
 use lib.Dec.{eqb, leb}
 use lib.ListN.{length, drop, getD, length-append, length-drop, List·getD-append}
 use lib.Seq.{drop-append-le, getD-append-seam}
-use Rattle.text.specs.Bytes.{isEscaped}
+use Rattle.text.specs.Bytes.{isOrdinary, isEscaped}
 use Rattle.text.specs.Strings.{strFrom, escFrom, stringAt}
 use Rattle.text.specs.declared.Read.{Read}
 use Rattle.text.specs.declared.Read.the-variants.{To, Miss}
@@ -91,7 +91,7 @@ string-ends s at j e = within-le (length s) j (rw e at (sym (rw append-nil at (s
 -- ---- in a text that ends in a line feed a string ends before that line feed
 
 mutual
-  unfolding strFrom escFrom isEscaped
+  unfolding strFrom escFrom isOrdinary isEscaped
 
   str-last : (r : List ℕ) (ordinary : Bool) (i n : ℕ) → n ≡ i + length r
       → within n (strFrom ordinary (r ++ (10 ∷ [])) i) ≡ strFrom ordinary (r ++ (10 ∷ [])) i

@@ -13,18 +13,20 @@ use Rattle.text.specs.Run.{runFrom, runTo, blanks}
 use Rattle.text.specs.Lines.{gapAt, commaAt, commentEnd, eolAt, lineEndAt, emptyAt}
 use Rattle.text.specs.Dates.{likeShape, dateShape, two, dateIn, dateAt}
 use Rattle.text.specs.Strings.{stringAt}
-use Rattle.text.specs.Accounts.{partFollows, partsFrom, accountAt}
 use Rattle.text.specs.Currencies.{currencyAt}
 use Rattle.text.specs.Words.{startsWith, wordAt}
 use Rattle.text.specs.Tags.{markedAt}
 use Rattle.text.specs.Refusals.{secondPartNumber}
 use Rattle.text.specs.Answer.{To, Miss}
-use Rattle.text.specs.Leaves.{token, named, dated, gap, comma, lineEnd, emptyLine, string, account, currency, tag, link, date, word, byte, hardGap}
+use Rattle.text.specs.Leaves.{token, dated, gap, comma, lineEnd, emptyLine, string, currency, tag, link, date, word, byte, hardGap}
+use Rattle.text.specs.Accounts.{account}
+use Rattle.text.specs.steps.Accounts.{partFollows, partsFrom, accountAt, accountAnswer}
 use Rattle.text.specs.declared.Read.{Read}
 use Rattle.text.specs.declared.account.AccountRead.{AccountRead}
 use Rattle.text.specs.declared.date.Dated.{Dated}
 use Rattle.text.proofs.TestLaws.{and-right}
 use Rattle.text.proofs.Steps.{byte-within, such-within, run-from, run-within}
+use Rattle.text.proofs.AccountLaws.{account-answers}
 use Rattle.text.proofs.Joins.{readingNumbers, secondPart, Reach, to-reach, miss-reach, hard-reach, must-reach, cond-reach}
 use Rattle.text.proofs.StringSame.{string-ahead, string-ends}
 use Rattle.text.proofs.Compared.{word-compares, shape-compares, compared-length}
@@ -120,17 +122,17 @@ module _ {A : Type 0} (s : List ℕ) (at : ℕ) where
       go Read.Miss e = miss-reach (length s) (at + 1)
 
   pub account-reach : Reach (length s) (at + 1) (account {A = A} s at)
-  unfolding account accountAt named startsPart isCapital isDigit
+  unfolding accountAt accountAnswer startsPart isCapital isDigit
   account-reach =
-      cond-reach (named secondPartNumber at) (length s) (at + 1) (startsPart (getD s at 0)) _ AccountRead.Miss
+      rw (account-answers s at) (cond-reach (accountAnswer secondPartNumber at) (length s) (at + 1) (startsPart (getD s at 0)) _ AccountRead.Miss
       (λ e.
       let l = such-within startsPart s at (getD s at 0) refl refl e in
       let j = runTo inAccount s (at + 1) in
       let r = run-reach inAccount s (at + 1) (omega arith) in
       let q = parts-from (drop j s) j in
-      cond-reach (named secondPartNumber at) (length s) (at + 1) (partFollows s j) (AccountRead.To (partsFrom (drop j s) j)) AccountRead.Hard
+      cond-reach (accountAnswer secondPartNumber at) (length s) (at + 1) (partFollows s j) (AccountRead.To (partsFrom (drop j s) j)) AccountRead.Hard
       (λ _. to-reach (length s) (at + 1) (partsFrom (drop j s) j) [] (omega arith) (omega (arith, length-drop j s))) (λ _. hard-reach (length s) (at + 1) secondPart at (omega arith)))
-      (λ _. miss-reach (length s) (at + 1))
+      (λ _. miss-reach (length s) (at + 1)))
 
   pub currency-reach : Reach (length s) (at + 1) (currency {A = A} s at)
   unfolding currency currencyAt token isCapital

@@ -1,27 +1,24 @@
 -- Rule 6. Account: two or more parts joined by `:`; a part starts with a capital or digit, then letters, digits, `-`. After a first part,
 -- missing the second is hard.
-use Prim.Native.Nat.{ℕ, _+_}
+use Prim.Native.Nat.{ℕ, suc, _+_}
 use Prim.Native.Char.{code}
-use mathlib.Core.Bool.{Bool, cond, _&&_, _||_}
-use mathlib.Core.List.{List, [], _∷_}
-use lib.Dec.{eqb}
-use lib.ListN.{drop, getD}
+use mathlib.Core.Bool.{cond}
+use mathlib.Core.List.{List, []}
+use lib.ListN.{length, getD}
 use Rattle.text.specs.Bytes.{inAccount, startsPart}
 use Rattle.text.specs.Run.{runTo}
-use Rattle.text.specs.declared.account.AccountRead.{AccountRead}
-use Rattle.text.specs.declared.account.AccountRead.the-variants.{To, Miss, Hard}
+use Rattle.text.specs.Refusals.{secondPartNumber}
+use Rattle.text.specs.Answer.{Ans, To, Miss, must, _and_, many}
+use Rattle.text.specs.Leaves.{byte}
 
--- `:` and the start of a part
-unfoldable pub partFollows : List ℕ → ℕ → Bool
-partFollows s at = eqb (getD s at 0) (code ":") && startsPart (getD s (at + 1) 0)
+-- a part: a capital or digit, then letters, digits, `-`
+unfoldable pub accountPart : {A : Type 0} → List ℕ → ℕ → Ans (List A)
+accountPart s at = cond (startsPart (getD s at 0)) (To (runTo inAccount s (at + 1)) []) Miss
 
--- in a text that starts at place i, inside a part: the end of the part and of the parts joined to it
-unfoldable pub partsFrom : List ℕ → ℕ → ℕ
-partsFrom [] i = i
-partsFrom (b ∷ s) i = cond (inAccount b || (eqb b (code ":") && startsPart (getD s 0 0))) (partsFrom s (i + 1)) i
+-- `:` and a part
+unfoldable pub nextPart : {A : Type 0} → List ℕ → ℕ → Ans (List A)
+nextPart s at = byte (code ":") s at and λ b. accountPart s b
 
-unfoldable pub accountAt : List ℕ → ℕ → AccountRead
-accountAt s at =
-    cond (startsPart (getD s at 0))
-    (let e = runTo inAccount s (at + 1) in cond (partFollows s e) (To (partsFrom (drop e s) e)) Hard)
-    Miss
+-- two or more parts; the second is required after a first one, and its refusal stands at the account's start
+unfoldable pub account : {A : Type 0} → List ℕ → ℕ → Ans (List A)
+account s at = accountPart s at and λ e. must secondPartNumber at (nextPart s e) and λ f. many (nextPart s) (suc (length s)) f

@@ -6,7 +6,8 @@ use mathlib.Core.List.{List, [], _∷_, map}
 use Rattle.text.specs.Bytes.{bytes}
 use Rattle.text.specs.Permitted.{clean}
 use Rattle.text.specs.Answer.{Ans, To, Miss, Hard, _then_}
-use Rattle.text.specs.Leaves.{gap, lineEnd, emptyLine, string, account, currency, tag, link, date, word}
+use Rattle.text.specs.Leaves.{gap, lineEnd, emptyLine, string, currency, tag, link, date, word}
+use Rattle.text.specs.Accounts.{account}
 use Rattle.text.specs.Opened.{opened}
 
 -- a token, at the start of a text

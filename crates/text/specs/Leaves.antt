@@ -1,32 +1,23 @@
--- The tokens as readers that answer as every rule does, at a place of a text.
+-- The tokens as readers that answer as every rule does, at a place of a text. Accounts has the account.
 use Prim.Native.Nat.{ℕ, _+_}
 use mathlib.Core.Bool.{cond}
 use mathlib.Core.List.{List, []}
 use lib.Dec.{eqb}
 use lib.ListN.{getD}
-use Rattle.text.specs.Answer.{Ans, To, Miss, Hard, must}
+use Rattle.text.specs.Answer.{Ans, To, Miss, must}
 use Rattle.text.specs.Lines.{gapAt, commaAt, lineEndAt, emptyAt}
-use Rattle.text.specs.Refusals.{secondPartNumber}
 use Rattle.text.specs.Dates.{dateAt}
 use Rattle.text.specs.Strings.{stringAt}
-use Rattle.text.specs.Accounts.{accountAt}
 use Rattle.text.specs.Currencies.{currencyAt}
 use Rattle.text.specs.Words.{wordAt}
 use Rattle.text.specs.Tags.{tagAt, linkAt}
 use Rattle.text.specs.declared.Read.{Read}
-use Rattle.text.specs.declared.account.AccountRead.{AccountRead}
 use Rattle.text.specs.declared.date.Dated.{Dated}
 
 -- a token makes no rows
 unfoldable pub token : {A : Type 0} → Read → Ans (List A)
 token (Read.To j) = To j []
 token Read.Miss = Miss
-
--- an account that starts at a place: where it has no second part it is refusal n
-unfoldable pub named : {A : Type 0} → ℕ → ℕ → AccountRead → Ans (List A)
-named n at (AccountRead.To j) = To j []
-named n at AccountRead.Miss = Miss
-named n at AccountRead.Hard = Hard n at
 
 unfoldable pub dated : Dated → Ans ℕ
 dated (Dated.On j d) = To j d
@@ -47,9 +38,6 @@ module _ {A : Type 0} (s : List ℕ) (at : ℕ) where
 
   unfoldable pub string : Ans (List A)
   string = token (stringAt s at)
-
-  unfoldable pub account : Ans (List A)
-  account = named secondPartNumber at (accountAt s at)
 
   unfoldable pub currency : Ans (List A)
   currency = token (currencyAt s at)

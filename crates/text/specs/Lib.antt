@@ -6,13 +6,13 @@ pub mod Permitted
 pub mod Lines
 pub mod Dates
 pub mod Strings
-pub mod Accounts
 pub mod Currencies
 pub mod Words
 pub mod Tags
 pub mod Refusals
 pub mod Answer
 pub mod Leaves
+pub mod Accounts
 pub mod Opened
 pub mod Examples
 pub mod steps

@@ -3,9 +3,7 @@ use Prim.Native.Nat.{ℕ, _+_}
 use mathlib.Core.Bool.{Bool, cond}
 use mathlib.Core.List.{List, [], _∷_}
 use lib.ListN.{drop}
-use Rattle.text.specs.Bytes.{isBlank, isSpace, isCapital, inComment, inLine}
-use Rattle.text.specs.declared.run.Class.{Class}
-use Rattle.text.specs.declared.run.Class.the-variants.{Blank, Space, Capital, Comment, Line}
+use Rattle.text.specs.Bytes.{isBlank}
 
 -- the end of the longest run of bytes for which p holds, in a text that starts at place i
 unfoldable pub runFrom : (ℕ → Bool) → List ℕ → ℕ → ℕ
@@ -19,11 +17,3 @@ runTo p s at = runFrom p (drop at s) at
 -- past the blanks
 abbrev pub blanks : List ℕ → ℕ → ℕ
 blanks s at = runTo isBlank s at
-
--- the classes by the names that the code has for them
-abbrev pub inClass : Class → ℕ → Bool
-inClass Blank = isBlank
-inClass Space = isSpace
-inClass Capital = isCapital
-inClass Comment = inComment
-inClass Line = inLine

@@ -6,17 +6,17 @@ use mathlib.Core.Bool.{Bool, true, false, cond}
 use mathlib.Core.List.{List, [], _∷_}
 use lib.Dec.{eqb}
 use lib.ListN.{drop, getD}
-use Rattle.text.specs.Bytes.{isEscaped}
+use Rattle.text.specs.Bytes.{isOrdinary, isEscaped}
 use Rattle.text.specs.declared.Read.{Read}
 use Rattle.text.specs.declared.Read.the-variants.{To, Miss}
 
--- In a text that starts at place i: the content that is left and the closing quote. `ordinary` says that an ordinary byte stands
--- directly before. escFrom is that after the backslash of an escape.
+-- In a text that starts at place i: the content that is left and the closing quote. An ordinary byte goes on, `"` closes,
+-- a backslash needs an ordinary byte directly before it (`ordinary`: one stands there). escFrom: after that backslash.
 unfoldable mutual
   pub strFrom : Bool → List ℕ → ℕ → Read
   strFrom ordinary [] i = Miss
   strFrom ordinary (b ∷ s) i =
-      cond (eqb b (code "\"")) (To (i + 1)) (cond (eqb b (code "\\")) (cond ordinary (escFrom s (i + 1)) Miss) (strFrom true s (i + 1)))
+      cond (isOrdinary b) (strFrom true s (i + 1)) (cond (eqb b (code "\"")) (To (i + 1)) (cond ordinary (escFrom s (i + 1)) Miss))
 
   pub escFrom : List ℕ → ℕ → Read
   escFrom [] i = Miss

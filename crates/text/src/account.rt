@@ -6,7 +6,7 @@ ghost use Prim.Native.Nat.{_+_, _<_};
 ghost use lib.ListN.{length, drop, getD};
 ghost use Rattle.text.specs.Bytes.{inAccount};
 ghost use Rattle.text.specs.Run.{runTo};
-ghost use Rattle.text.specs.Accounts.{partsFrom, accountAt};
+ghost use Rattle.text.specs.steps.Accounts.{partsFrom, accountAt};
 ghost use Rattle.text.specs.steps.Windows.{goesOn, firstStop};
 
 // The bytes of a window, and what stands for no place in it.

@@ -2,7 +2,8 @@
 use crate::bytes;
 ghost use mathlib.Core.Path.{_≡_};
 ghost use Prim.Native.Nat.{_≤_};
-ghost use Rattle.text.specs.Run.{runTo, inClass};
+ghost use Rattle.text.specs.Run.{runTo};
+ghost use Rattle.text.specs.steps.Classes.{inClass};
 
 // The classes of which a rule takes the longest run. Those with more kinds of bytes are in `window`.
 pub enum Class {

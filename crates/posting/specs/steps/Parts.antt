@@ -5,7 +5,8 @@ use mathlib.Core.List.{List, [], _∷_}
 use lib.ListN.{getD}
 use Rattle.text.specs.Answer.{To, _then_, _and_, maybe}
 use Rattle.text.specs.Lines.{gapAt}
-use Rattle.text.specs.Leaves.{account, lineEnd}
+use Rattle.text.specs.Leaves.{lineEnd}
+use Rattle.text.specs.Accounts.{account}
 use Rattle.text.specs.declared.Read.{Read}
 use Rattle.amount.specs.Kinds.{postingKind}
 use Rattle.amount.specs.Details.{Rows, named}

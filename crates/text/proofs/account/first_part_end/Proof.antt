@@ -4,7 +4,7 @@ use Prim.Native.Nat.{_-_}
 use mathlib.Core.Path.{_≡_}
 use Rattle.text.specs.Bytes.{inAccount}
 use Rattle.text.specs.Run.{runTo}
-use Rattle.text.specs.Accounts.{partsFrom}
+use Rattle.text.specs.steps.Accounts.{partsFrom}
 use borrow.Author.Needs.{needs}
 use Rattle.text.proofs.account.first_part_end.Statement.{statement}
 use Rattle.text.proofs.account.first_part_end.Tie as tie

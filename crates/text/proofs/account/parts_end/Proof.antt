@@ -3,7 +3,7 @@ use lib.ListN.{length, drop}
 use Prim.Native.Nat.{_-_}
 use mathlib.Core.Path.{_≡_, refl, sym, _∙_}
 use mathlib.Core.Logic.{⊎-elim}
-use Rattle.text.specs.Accounts.{partsFrom}
+use Rattle.text.specs.steps.Accounts.{partsFrom}
 use borrow.Author.Needs.{needs}
 use Rattle.text.proofs.account.parts_end.Statement.{statement}
 use Rattle.text.proofs.account.parts_end.Tie as tie

@@ -2,7 +2,7 @@ use Rattle.text.proofs.AccountLaws.{short-laws}
 use lib.ListN.{length, drop}
 use Prim.Native.Nat.{_-_}
 use mathlib.Core.Path.{_≡_}
-use Rattle.text.specs.Accounts.{partsFrom}
+use Rattle.text.specs.steps.Accounts.{partsFrom}
 use borrow.Author.Needs.{needs}
 use Rattle.text.proofs.account.short_end.Statement.{statement}
 use Rattle.text.proofs.account.short_end.Tie as tie

@@ -1,7 +1,8 @@
 use lib.ListN.{length}
 use Prim.Native.Nat.{_-_, _≤_}
 use mathlib.Core.Path.{_≡_}
-use Rattle.text.specs.Run.{runTo, inClass}
+use Rattle.text.specs.Run.{runTo}
+use Rattle.text.specs.steps.Classes.{inClass}
 use Rattle.text.proofs.RunLaws.{run-laws}
 use borrow.Author.Needs.{needs}
 use Rattle.text.proofs.run.run.Statement.{statement}
