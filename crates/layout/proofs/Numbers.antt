@@ -268,9 +268,9 @@ size-literal n =
     all-append inLiteral (wholeText 8 (n / 1000000)) (fractionText (n % 1000000))
     (all-part isDigit inLiteral digit-literal (wholeText 8 (n / 1000000)) (whole-digits 8 (n / 1000000))) (fraction-literal (n % 1000000))
 
-pub size-number : (n : ℕ) → isNumber (sizeText n) ≡ true
+pub size-is-number : (n : ℕ) → isNumber (sizeText n) ≡ true
 unfolding sizeText isNumber
-size-number n =
+size-is-number n =
     let a = wholeText 8 (n / 1000000) in
     let b = fractionText (n % 1000000) in
     let h = whole-digits 8 (n / 1000000) in

@@ -25,7 +25,7 @@ use Rattle.amount.proofs.Forms.{group-misses}
 use Rattle.amount.proofs.ExpressionEnds.{none-between}
 use Rattle.layout.specs.Written.{sizeText, valueText}
 use Rattle.layout.proofs.Texts.{at-text}
-use Rattle.layout.proofs.Numbers.{All, size-head, size-literal, size-number, size-exact}
+use Rattle.layout.proofs.Numbers.{All, size-head, size-literal, size-is-number, size-exact}
 
 -- ---- runs
 
@@ -112,7 +112,7 @@ module _ (s : List ℕ) (n : ℕ) (h : n ≤ limit) (post : List ℕ) (c : inLit
         run-at s inLiteral (sizeText n) post i A (size-literal n) c,
         at-text
             (sizeText n) post A,
-        size-number n,
+        size-is-number n,
         size-exact m n h,
       )
 
