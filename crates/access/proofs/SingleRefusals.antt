@@ -11,7 +11,6 @@ use lib.ListN.{length}
 use Rattle.decimal.specs.declared.Form.{Form}
 use Rattle.decimal.specs.declared.Value.{Value}
 use Rattle.decimal.specs.declared.Value.the-variants.{Known, Refused}
-use Rattle.text.specs.Every.{OneOf}
 use Rattle.text.specs.Permitted.{clean, sizeLimit}
 use Rattle.text.specs.Refusals.{Refusal}
 use Rattle.text.specs.Answer.{Ans, To, Miss, Hard}
@@ -24,13 +23,6 @@ use Rattle.access.specs.declared.single.Evaluated.{Evaluated}
 
 abbrev pub singleNumbers : List ℕ
 singleNumbers = 1 ∷ 2 ∷ 3 ∷ 11 ∷ valueNumbers
-
--- no number of a value is 1
-not-first : (n : ℕ) → OneOf valueNumbers n → n ≡ 1 → ⊥
-not-first n (inl e) z = omega arith
-not-first n (inr (inl e)) z = omega arith
-not-first n (inr (inr (inl e))) z = omega arith
-not-first n (inr (inr (inr e))) z = e
 
 module _ (s : List ℕ) where
   abbrev Told : Evaluated → Type 0

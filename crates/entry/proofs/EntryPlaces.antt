@@ -12,6 +12,7 @@ use Rattle.decimal.specs.declared.Value.{Value}
 use Rattle.decimal.specs.declared.Value.the-variants.{Known, Refused}
 use Rattle.text.specs.Every.{OneOf}
 use Rattle.text.specs.Answer.{Ans, To, Miss, Hard}
+use Rattle.text.proofs.EveryLaws.{one-has}
 use Rattle.text.proofs.Joins.{readingNumbers, Reach}
 use Rattle.text.specs.Refusals.{deepNumber}
 use Rattle.amount.specs.declared.detail.Detail.{Detail}
@@ -49,11 +50,7 @@ abbrev pub entryNumbers : List ℕ
 entryNumbers = 3 ∷ 4 ∷ 5 ∷ valueNumbers
 
 reading-number : (k : ℕ) → OneOf readingNumbers k → OneOf entryNumbers k
-reading-number k (inl e) = inl e
-reading-number k (inr (inl e)) = inr (inl e)
-reading-number k (inr (inr (inl e))) = inr (inl e)
-reading-number k (inr (inr (inr (inl e)))) = inr (inl e)
-reading-number k (inr (inr (inr (inr e)))) = absurd e
+reading-number k w = one-has (OneOf entryNumbers) readingNumbers k (inl refl, (inr (inl refl), (inr (inl refl), (inr (inl refl), tt)))) w
 
 -- ---- the entry
 

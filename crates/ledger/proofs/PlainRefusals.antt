@@ -11,7 +11,7 @@ use lib.ListN.{length, take, drop, length-drop}
 use Rattle.text.specs.Every.{Every, OneOf}
 use Rattle.text.specs.Permitted.{clean, sizeLimit}
 use Rattle.text.specs.Refusals.{Refusal}
-use Rattle.text.proofs.EveryLaws.{one-left, one-right, every-right}
+use Rattle.text.proofs.EveryLaws.{every-right, one-has, one-left, one-right}
 use Rattle.amount.proofs.RowCounts.{refusalKind}
 use Rattle.row.specs.declared.table.Row.{Row}
 use Rattle.row.specs.Row.{feeds}
@@ -61,15 +61,8 @@ module _ (m : ℕ) where
 abbrev pub plainNumbers : List ℕ
 plainNumbers = 1 ∷ 2 ∷ entryNumbers
 
--- none of an entry's numbers is 1
-not-first : (n : ℕ) → OneOf entryNumbers n → n ≡ 1 → ⊥
-not-first n (inl e) z = omega arith
-not-first n (inr (inl e)) z = omega arith
-not-first n (inr (inr (inl e))) z = omega arith
-not-first n (inr (inr (inr (inl e)))) z = omega arith
-not-first n (inr (inr (inr (inr (inl e))))) z = omega arith
-not-first n (inr (inr (inr (inr (inr (inl e)))))) z = omega arith
-not-first n (inr (inr (inr (inr (inr (inr e)))))) z = e
+above-one : (n : ℕ) → OneOf entryNumbers n → 1 < n
+above-one n h = one-has (λ m. 1 < m) entryNumbers n (omega arith) h
 
 pub plain-refusal : (s : List ℕ) (n p : ℕ) → plain s ≡ denied n p → Refusal plainNumbers (length s) n p
 unfolding plain partAt
@@ -77,10 +70,10 @@ plain-refusal s n p e = subst (Denied (Refusal plainNumbers (length s))) e (size
   where
     entries : (w : Reading) → Denied (Met (length s)) w → Denied (Refusal plainNumbers (length s)) w
     entries (accepted rs) h = tt
-    entries (denied k q) (h, l) = record { listed = inr (inr h); within = l; front = λ z. absurd (not-first k h z) }
+    entries (denied k q) (h, l) = record { listed = inr (inr h); within = l; front = λ z. absurd (omega (arith, above-one k h)) }
 
     bytes : (b : Bool) → ltb (clean s) (length s) ≡ b → Denied (Refusal plainNumbers (length s)) (cond b (denied 2 (0 + clean s)) (readFrom (length s) 0 1 s))
-    bytes true q = record { listed = inr (inl refl); within = omega (arith, ltb-true (clean s) (length s) q); front = λ z. omega arith }
+    bytes true q = record { listed = inr (inl refl); within = omega (arith, ltb-true (clean s) (length s) q); front = λ z. absurd (omega arith) }
     bytes false q = entries (readFrom (length s) 0 1 s) (read-met (length s) (length s) 0 1 s (omega arith))
 
     size : (b : Bool) → Denied (Refusal plainNumbers (length s)) (cond b (part s) (denied 1 0))
@@ -89,20 +82,19 @@ plain-refusal s n p e = subst (Denied (Refusal plainNumbers (length s))) e (size
 
 -- ---- strict reading
 
+abbrev judgedNumbers : List ℕ
+judgedNumbers = lostLineNumber ∷ flagNumber ∷ []
+
 abbrev pub strictNumbers : List ℕ
-strictNumbers = plainNumbers ++ (lostLineNumber ∷ flagNumber ∷ [])
+strictNumbers = plainNumbers ++ judgedNumbers
 
 pub strict-refusal : (s : List ℕ) (n p : ℕ) → strict s ≡ denied n p → Refusal strictNumbers (length s) n p
 unfolding judged
 strict-refusal s n p e = go (plain s) refl
   where
-    numbered : (n ≡ lostLineNumber) ⊎ (n ≡ flagNumber) → OneOf (lostLineNumber ∷ flagNumber ∷ []) n
+    numbered : (n ≡ lostLineNumber) ⊎ (n ≡ flagNumber) → OneOf judgedNumbers n
     numbered (inl k) = inl k
     numbered (inr k) = inr (inl k)
-
-    later : (n ≡ lostLineNumber) ⊎ (n ≡ flagNumber) → n ≡ 1 → ⊥
-    later (inl k) z = omega arith
-    later (inr k) z = omega arith
 
     row-place : (rs : List Row) → plain s ≡ accepted rs → Refused s rs n p → p ≤ length s
     row-place rs q r =
@@ -113,12 +105,12 @@ strict-refusal s n p e = go (plain s) refl
     go : (w : Reading) → plain s ≡ w → Refusal strictNumbers (length s) n p
     go (accepted rs) q =
         let x = strict-exactly s rs q in
-        let k = x .numbers n p e in
+        let k = numbered (x .numbers n p e) in
         record {
-          listed = one-right plainNumbers (lostLineNumber ∷ flagNumber ∷ []) n (numbered k);
+          listed = one-right plainNumbers judgedNumbers n k;
           within = row-place rs q (x .refused n p e);
-          front = λ z. absurd (later k z);
+          front = λ z. absurd (omega (arith, one-has (λ m. 1 < m) judgedNumbers n (omega arith) k));
         }
     go (denied k i) q =
         let d = plain-refusal s n p (q ∙ (sym (plain-first s k i q) ∙ e)) in
-        record { listed = one-left plainNumbers (lostLineNumber ∷ flagNumber ∷ []) n (d .listed); within = d .within; front = d .front }
+        record { listed = one-left plainNumbers judgedNumbers n (d .listed); within = d .within; front = d .front }

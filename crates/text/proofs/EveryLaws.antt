@@ -1,6 +1,7 @@
--- A property of each thing in a list: of two lists, and of another property that follows. A number that is one of two
--- lists.
+-- A property of each thing in a list: of two lists, and of another property that follows. A number that is one of a
+-- list: what holds of each holds of it, and it is one of a longer list.
 use Prim.Native.Nat.{ℕ}
+use mathlib.Core.Path.{sym, subst}
 use mathlib.Core.Logic.{inl, inr}
 use mathlib.Core.List.{List, [], _∷_, _++_}
 use Rattle.text.specs.Every.{Every, OneOf}
@@ -21,6 +22,11 @@ module _ {A : Type 0} (P : A → Type 0) where
 pub every-map : {A : Type 0} {P Q : A → Type 0} → ((x : A) → P x → Q x) → (xs : List A) → Every P xs → Every Q xs
 every-map f [] h = tt
 every-map f (x ∷ xs) h = (f x (h .0), every-map f xs (h .1))
+
+pub one-has : (P : ℕ → Type 0) (ms : List ℕ) (n : ℕ) → Every P ms → OneOf ms n → P n
+one-has P [] n h k = absurd k
+one-has P (m ∷ ms) n h (inl e) = subst P (sym e) (h .0)
+one-has P (m ∷ ms) n h (inr k) = one-has P ms n (h .1) k
 
 pub one-left : (ms ns : List ℕ) (n : ℕ) → OneOf ms n → OneOf (ms ++ ns) n
 one-left [] ns n h = absurd h
