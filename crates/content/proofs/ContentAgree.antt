@@ -24,7 +24,6 @@ use Rattle.text.proofs.TextCut.{xs, s, cut, same-byte}
 use Rattle.text.specs.Refusals.{requiredNumber}
 use Rattle.amount.specs.declared.detail.Detail.{Detail}
 use Rattle.amount.specs.Details.{Rows, span, quoted}
-use Rattle.row.specs.Strings.{counted}
 use Rattle.row.proofs.SureLaws.{Sure, sure-must, sure-and}
 use Rattle.posting.specs.Metadata.{metadata}
 use Rattle.posting.proofs.PostingEnds.{metadata-reach}
@@ -57,14 +56,6 @@ gap-quote s at g x e f = go (ltb at (blanks s at)) e
     go true e = let z : blanks s at ≡ g = cc in quote-line s at (rw z f)
     go false e = absurd (let z : _≡_ {A = ℕ} 0 1 = cc in omega arith)
 
-counted-32 : counted 32 ≡ true
-unfolding counted
-counted-32 = refl
-
-counted-34 : counted 34 ≡ true
-unfolding counted
-counted-34 = refl
-
 hard-gap-sure : (n : ℕ) (s : List ℕ) (at : ℕ) → Sure (hardGap n s at)
 unfolding hardGap
 hard-gap-sure n s at = sure-must n at _
@@ -93,10 +84,10 @@ module _ (front t : List ℕ) (b : ℕ) (B : isStart b ≡ true) where
 
   pub hard-string-agree : (at : ℕ) → at < M → Agrees M M false (hardString S at) (hardString X at)
   unfolding hardString
-  hard-string-agree at h = must-agree requiredNumber at (quoted-span front t b B 34 counted-34 refl at (omega arith))
+  hard-string-agree at h = must-agree requiredNumber at (quoted-span front t b B 34 refl at (omega arith))
 
   pub option-string-agree : (at : ℕ) → at < M → Agrees M M true (quoted (span 34) S at) (quoted (span 34) X at)
-  option-string-agree at h = quoted-span front t b B 34 counted-34 refl at (omega arith)
+  option-string-agree at h = quoted-span front t b B 34 refl at (omega arith)
 
   pub event-of-agree : (at : ℕ) → at < M → Agrees M M false (eventOf S at) (eventOf X at)
   unfolding eventOf
@@ -113,7 +104,7 @@ module _ (front t : List ℕ) (b : ℕ) (B : isStart b ≡ true) where
 
   booking-agree : (at : ℕ) → at < M → Agrees M M true (booking S at) (booking X at)
   unfolding booking
-  booking-agree at h = and-agree (gap-alike C (upto at h)) (λ g h₁. quoted-span front t b B 32 counted-32 refl g (omega arith))
+  booking-agree at h = and-agree (gap-alike C (upto at h)) (λ g h₁. quoted-span front t b B 32 refl g (omega arith))
 
   -- where one is read, no line ends before it
   booked : (at j : ℕ) (x : List Detail) → at < M → booking S at ≡ To j x → lineEnd {A = Detail} X at ≡ Miss

@@ -11,7 +11,7 @@ use lib.ListN.{length, getD, drop, length-drop}
 use Rattle.text.proofs.TestLaws.{and-left, and-right}
 use Rattle.text.proofs.Steps.{such-within}
 use Rattle.text.specs.Boundaries.{isStart, cuts}
-use Rattle.entry.proofs.HeldLaws.{start-zero}
+use Rattle.entry.proofs.StringsLaws.{start-zero}
 use Rattle.recovery.specs.Recovering.{blockLength}
 use Rattle.recovery.proofs.BlockLaws.{block-le, cut-is}
 use Rattle.edit.specs.Edits.{isBlock}

@@ -11,7 +11,7 @@ use mir.Syntax.{w64}
 use mir.Val.{Fits}
 use Rattle.text.proofs.Steps.{getD-past, rest-of}
 use Rattle.text.specs.Boundaries.{isStart, cuts}
-use Rattle.entry.proofs.HeldLaws.{start-zero}
+use Rattle.entry.proofs.StringsLaws.{start-zero}
 use Rattle.recovery.specs.Recovering.{blockLength}
 use Rattle.recovery.proofs.BlockLaws.{block-le}
 use Rattle.recovery.specs.Demand3.{startsTail, endsLine}

@@ -11,7 +11,7 @@ use lib.ListN.{length, getD}
 use Rattle.text.specs.Bytes.{bytes, inLine}
 use Rattle.text.specs.Run.{runTo}
 use Rattle.text.specs.Answer.{Ans, To, Miss, Hard, more, _then_, _and_}
-use Rattle.text.specs.Leaves.{gap, lineEnd}
+use Rattle.text.specs.Leaves.{gap, hardGap, word, lineEnd}
 use Rattle.text.proofs.TestLaws.{absurd-bool}
 use Rattle.text.proofs.InLine.{hasLF, no-lf}
 use Rattle.text.proofs.Joins.{required, Reach, reach-from, must-reach, and-reach}
@@ -36,7 +36,7 @@ use Rattle.content.proofs.ContentAgree.{ending, ending-reach, ending-agree, har
 use Rattle.transaction.proofs.TransactionAgree.{transaction-agree}
 use Rattle.entry.specs.Directive.{keyword, option, include, tagged}
 use Rattle.entry.specs.Forms.{Form, asEntry, dateless, directive, blank, formOf}
-use Rattle.entry.specs.Lost.{unless, lostAt, lostEvent}
+use Rattle.entry.specs.Strings.{unless, lostEvent}
 
 -- ---- no string of what is read crosses n
 
@@ -116,12 +116,15 @@ module _ (front t : List ℕ) (b : ℕ) (B : isStart b ≡ true) where
   keyword-agree w content f c at h = keyword-at w content f at h (λ g h₁. and-agree (c g h₁) (λ m h₂. ending-agree front t b B m h₂))
 
   -- an event whose line end misses is lost with its strings
-  event-ending : (at : ℕ) → at < M → Clear M (eventOf S at then λ m rs. unless (lineEnd S m) (To m rs))
+  abbrev unended : Rows → Rows
+  unended a = a then λ e rs. unless (lineEnd S e) (To e rs)
+
+  event-ending : (at : ℕ) → at < M → Clear M (unended (eventOf S at))
       → Agrees M (suc M) false (eventOf S at and ending S) (eventOf X at and ending X)
   unfolding _and_ _then_ unless
   event-ending at h c = go (eventOf S at) (eventOf X at) (event-of-agree front t b B at h) (event-of-reach S at (omega (arith, longer front t b B))) c
     where
-      go : (a d : Rows) → Agrees M M false a d → Reach N (at + 1) a → Clear M (a then λ m rs. unless (lineEnd S m) (To m rs)) → Agrees M (suc M) false (a and ending S) (d and ending X)
+      go : (a d : Rows) → Agrees M M false a d → Reach N (at + 1) a → Clear M (unended a) → Agrees M (suc M) false (a and ending S) (d and ending X)
       go a d misses r c = misses
       go a d (refuses k p) r c = refuses k p
       go a d (reads j x l) r c = more-agree x (ending-agree front t b B j l)
@@ -129,14 +132,17 @@ module _ (front t : List ℕ) (b : ℕ) (B : isStart b ≡ true) where
           torn-more N M (suc M) false j x (d and ending X) (ending S j) l e (ending-reach S j (r .ends .1)) tt
           (λ q. absurd-bool (sym (c j x (rw (ending-miss S j q))) ∙ e))
 
-  event-agree : (at : ℕ) → at < M → Clear M (lostAt S at) → Agrees M (suc M) false (keyword "event" eventOf S at) (keyword "event" eventOf X at)
-  unfolding keyword lostAt
+  abbrev lostAt : ℕ → Rows
+  lostAt at = word (bytes "event") S at and λ c. hardGap wordGapNumber S c and λ d. unended (eventOf S d)
+
+  event-agree : (at : ℕ) → at < M → Clear M (lostAt at) → Agrees M (suc M) false (keyword "event" eventOf S at) (keyword "event" eventOf X at)
+  unfolding keyword
   event-agree at h c =
       and-at (word-alike C (bytes "event") (words-lf .6) (upto at h)) (λ e x p h₁.
       and-at (hard-gap-alike C wordGapNumber (upto e h₁)) (λ g y q h₂.
       event-ending g h₂ (clear-and M _ _ g y (clear-and M _ _ e x c p) q)))
 
-  dateless-agree : (d at : ℕ) → at < M → Clear M (lostAt S at) → Agree inForm M (suc M) false (dateless d S at) (dateless d X at)
+  dateless-agree : (d at : ℕ) → at < M → Clear M (lostAt at) → Agree inForm M (suc M) false (dateless d S at) (dateless d X at)
   unfolding dateless
   dateless-agree d at h c =
       else-agree (as-entry-agree 6 d (transaction-agree front t b B at h))
@@ -157,7 +163,7 @@ module _ (front t : List ℕ) (b : ℕ) (B : isStart b ≡ true) where
   directive-agree h c =
       then-at (date-alike C (upto 0 h)) (λ e d p h₁.
       then-at (hard-gap-alike C {A = Detail} wordGapNumber (upto e h₁)) (λ g x q h₂.
-      dateless-agree d g h₂ (clear-then M _ _ g x (clear-then M _ _ e d c p) q)))
+      dateless-agree d g h₂ (clear-and M _ _ g x (clear-then M _ _ e d c p) q)))
 
   -- ---- rules 14 and 15
 

@@ -2,27 +2,26 @@
 use Prim.Native.Nat.{ℕ, suc, _+_, _-_, _<_, _≤_}
 use native.Mathlib.Omega.{arith}
 use mathlib.Core.Path.{_≡_, refl, sym, ap, subst, _∙_}
-use mathlib.Core.Bool.{true, false, _&&_, not}
+use mathlib.Core.Bool.{true, false}
 use mathlib.Core.List.{List, [], _∷_, _++_, map}
-use borrow.Author.Tests.{lt-ltb, not-true}
-use lib.Dec.{ltb}
+use borrow.Author.Tests.{lt-ltb}
 use lib.IntN.{pos}
 use lib.ListN.{length, getD, take, length-append, List·getD-append}
 use lib.Seq.{take-append-le, getD-append-seam}
 use Rattle.text.specs.Bytes.{isDigit, isSmall}
 use Rattle.text.specs.Answer.{To}
-use Rattle.text.proofs.TestLaws.{absurd-bool, and-left, and-right}
+use Rattle.text.proofs.TestLaws.{absurd-bool}
 use Rattle.row.specs.declared.table.Row.{Row}
 use Rattle.row.specs.Row.{rowOf}
 use Rattle.text.specs.Boundaries.{isStart}
 use Rattle.posting.proofs.Agree.{torn}
 use Rattle.entry.specs.Forms.{Form, formOf}
 use Rattle.entry.specs.Entry.{detailRow, rowsOf, got, judged, settled, entryOf}
-use Rattle.entry.specs.Lost.{lostEvent, lostHeld, fine, whole}
+use Rattle.entry.specs.Strings.{lostEvent, lostStrings, strings, NoneHolds}
 use Rattle.entry.proofs.EntryForms.{entry-form}
 use Rattle.entry.proofs.EntryTold.{form-kind-low}
 use Rattle.entry.proofs.EntryAgree.{Clear, form-cut}
-use Rattle.entry.proofs.HeldLaws.{whole-torn, lost-clear}
+use Rattle.entry.proofs.StringsLaws.{none-parts, details-clear, lost-clear}
 
 -- a text that is empty or ends in a line feed
 abbrev pub Ends : List ℕ → Type 0
@@ -65,25 +64,24 @@ module _ (front t : List ℕ) (b : ℕ) (B : isStart b ≡ true) where
   start-there : isStart (getD S (length front + 1) 0) ≡ true
   start-there = rw (← size, getD-append-seam X b t 0) B
 
-  cut-form : (n : ℕ) (f : Form) → formOf S ≡ To n f → whole S (rowsOf S n f) ≡ true → (n ≤ length X) × (formOf X ≡ To n f)
-  unfolding whole fine rowsOf rowOf
+  cut-form : (n : ℕ) (f : Form) → formOf S ≡ To n f → NoneHolds (strings S (rowsOf S n f)) → (n ≤ length X) × (formOf X ≡ To n f)
+  unfolding rowsOf rowOf
   cut-form n f e w =
       let r = rowOf (f .kind) 0 n 0 (f .date) (length (f .details)) (pos 0) in
-      let ds = map (detailRow (take n S)) (f .details) in
-      let p : not (ltb (f .kind) 20 && lostHeld S) ≡ true = and-left (not (ltb (f .kind) 20 && lostHeld S)) _ (and-left (fine S r) (whole S ds) w) in
-      let l : lostHeld S ≡ false = rw (lt-ltb (f .kind) 20 (omega (arith, form-kind-low S n f e))) at (not-true (ltb (f .kind) 20 && lostHeld S) p) in
+      let p = none-parts S r (map (detailRow (take n S)) (f .details)) w in
+      let l : NoneHolds (lostStrings S) = rw (lt-ltb (f .kind) 20 (omega (arith, form-kind-low S n f e))) at (p .1) in
       form-cut front t b B n f (omega (arith, size)) (subst (λ m. Clear m (lostEvent S)) (sym size) (lost-clear S (length front) feed-there start-there l)) e
-      (subst (λ m. torn m (f .details) ≡ false) (sym size) (whole-torn S (length front) feed-there start-there (take n S) (f .details) (and-right (fine S r) (whole S ds) w)))
+      (subst (λ m. torn m (f .details) ≡ false) (sym size) (details-clear S (length front) feed-there start-there (take n S) (f .details) (p .2)))
 
-  cut-entry : (n : ℕ) (rs : List Row) → entryOf S ≡ got n rs → whole S rs ≡ true → (n ≤ length X) × (entryOf X ≡ got n rs)
+  cut-entry : (n : ℕ) (rs : List Row) → entryOf S ≡ got n rs → NoneHolds (strings S rs) → (n ≤ length X) × (entryOf X ≡ got n rs)
   cut-entry n rs e w =
       let F = entry-form S n rs e in
       let f = F .0 in
-      let k = cut-form n f (F .1) (subst (λ z. whole S z ≡ true) (F .2) w) in
+      let k = cut-form n f (F .1) (subst (λ z. NoneHolds (strings S z)) (F .2) w) in
       (k .0, same-entry X S n f (k .1) (F .1) (sym (rows-cut X (b ∷ t) n f (k .0))) ∙ e)
 
 -- The law that demand 3 rests on.
-pub entry-cut : (x y : List ℕ) (n : ℕ) (rs : List Row) → 0 < length x → Ends x → isStart (getD y 0 0) ≡ true → entryOf (x ++ y) ≡ got n rs → whole (x ++ y) rs ≡ true
+pub entry-cut : (x y : List ℕ) (n : ℕ) (rs : List Row) → 0 < length x → Ends x → isStart (getD y 0 0) ≡ true → entryOf (x ++ y) ≡ got n rs → NoneHolds (strings (x ++ y) rs)
     → (n ≤ length x) × (entryOf x ≡ got n rs)
 entry-cut x y n rs h e b =
     let u = last-split x h e in

@@ -1,6 +1,6 @@
 pub mod EntryEnds
 pub mod EntryAgree
-pub mod HeldLaws
+pub mod StringsLaws
 pub mod EntryCut
 pub mod EntryForms
 pub mod EntryFew

@@ -1,6 +1,6 @@
 pub mod Directive
 pub mod Forms
 pub mod Entry
-pub mod Lost
+pub mod Strings
 pub mod Opened
 pub mod steps

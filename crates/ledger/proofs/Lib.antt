@@ -1,7 +1,7 @@
 pub mod RowOrder
 pub mod PlainLaws
 pub mod MoveLaws
-pub mod WholeMoved
+pub mod StringsMoved
 pub mod LaidRows
 pub mod ScanLaws
 pub mod PartLaws

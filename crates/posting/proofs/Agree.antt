@@ -13,16 +13,24 @@ use Rattle.text.specs.Answer.{Ans, To, Miss, Hard, _then_, must, _else_, more, 
 use Rattle.text.proofs.TestLaws.{absurd-bool, or-second}
 use Rattle.text.proofs.Joins.{Reach, reach-from, many-reach, and-assoc}
 use Rattle.text.proofs.Alike.{Same, both-to, both-miss, both-hard}
+use Rattle.amount.specs.Kinds.{payeeKind, narrationKind, bookingKind, stringKind, stringMetaKind}
 use Rattle.amount.specs.declared.detail.Detail.{Detail}
 use Rattle.amount.specs.Details.{Rows}
-use Rattle.row.specs.Strings.{counted}
 use Rattle.row.proofs.SureLaws.{Sure, sure-to, sure-hard, sure-many}
 
 -- ---- strings that cross n
 
--- the string of a row holds the byte before n and the byte at n
+-- kinds whose span is one of demand 3's strings (`row-strings` of the crate entry); of kind 35 the value is one
+abbrev pub spansString : ℕ → Bool
+spansString k = eqb k payeeKind || eqb k narrationKind || eqb k bookingKind || eqb k stringKind
+
+-- from lo to hi stand the byte before n and the byte at n
+abbrev pub crossesAt : ℕ → ℕ → ℕ → Bool
+crossesAt n lo hi = ltb lo n && ltb n hi
+
+-- the string of a row does so
 unfoldable pub tornBy : ℕ → Detail → Bool
-tornBy n d = counted (d .kind) && cond (eqb (d .kind) 35) (ltb (d .p) n && ltb n (d .q)) (ltb (d .start) n && ltb n (d .end))
+tornBy n d = cond (spansString (d .kind)) (crossesAt n (d .start) (d .end)) (eqb (d .kind) stringMetaKind && crossesAt n (d .p) (d .q))
 
 unfoldable pub torn : ℕ → List Detail → Bool
 torn n [] = false

@@ -23,8 +23,7 @@ use Rattle.text.proofs.TextCut.{xs, ys, s, cut, seam}
 use Rattle.text.specs.Boundaries.{isStart}
 use Rattle.amount.specs.declared.detail.Detail.{Detail}
 use Rattle.amount.specs.Details.{span, named, quoted}
-use Rattle.row.specs.Strings.{counted}
-use Rattle.posting.proofs.Agree.{tornBy, torn, Agrees, misses, reads, crosses}
+use Rattle.posting.proofs.Agree.{spansString, tornBy, torn, Agrees, misses, reads, crosses}
 
 -- ---- a string starts and ends with a quote
 
@@ -74,12 +73,12 @@ string-quotes s at j e = go (eqb (getD s at 0) 34) refl e
 -- ---- rows whose string crosses n
 
 module _ (n k lo hi : ℕ) (p : lo < n) (q : n < hi) where
-  pub span-torn : counted k ≡ true → eqb k 35 ≡ false → (ds : List Detail) → torn n (span k lo hi ∷ ds) ≡ true
+  pub span-torn : spansString k ≡ true → (ds : List Detail) → torn n (span k lo hi ∷ ds) ≡ true
   unfolding torn tornBy
-  span-torn c e ds = rw (c, e, lt-ltb lo n p, lt-ltb n hi q)
+  span-torn c ds = rw (c, lt-ltb lo n p, lt-ltb n hi q)
 
   pub value-torn : (c : ℕ) → torn n (named 35 k c lo hi ∷ []) ≡ true
-  unfolding torn tornBy counted
+  unfolding torn tornBy
   value-torn c = rw (lt-ltb lo n p, lt-ltb n hi q)
 
 -- ---- the two readings of a string
@@ -138,9 +137,9 @@ module _ (front t : List ℕ) (b : ℕ) (B : isStart b ≡ true) where
       go (read j l p q) = rw (p, q) (reads j (row (at + 1) (j - 1)) l)
       go (crossed j k l p q) = rw (p, q) (crosses j (row (at + 1) (j - 1)) (omega arith) (f (at + 1) (j - 1) k l) refl)
 
-  pub quoted-span : (k : ℕ) → counted k ≡ true → eqb k 35 ≡ false → (at : ℕ) → at < suc M → Agrees M M true (quoted (span k) S at) (quoted (span k) X at)
+  pub quoted-span : (k : ℕ) → spansString k ≡ true → (at : ℕ) → at < suc M → Agrees M M true (quoted (span k) S at) (quoted (span k) X at)
   unfolding quoted
-  quoted-span k c e at h = string-agree (λ lo hi. span k lo hi ∷ []) (λ lo hi p q. span-torn M k lo hi p q c e []) at h
+  quoted-span k c at h = string-agree (λ lo hi. span k lo hi ∷ []) (λ lo hi p q. span-torn M k lo hi p q c []) at h
 
   pub quoted-value : (k c at : ℕ) → at < suc M → Agrees M M true (quoted (named 35 k c) S at) (quoted (named 35 k c) X at)
   unfolding quoted

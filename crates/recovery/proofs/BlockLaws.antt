@@ -13,7 +13,7 @@ use Rattle.text.proofs.TestLaws.{absurd-bool, or-left, or-right}
 use Rattle.row.specs.Row.{feeds}
 use Rattle.text.specs.Boundaries.{isStart, cuts, holds}
 use Rattle.entry.proofs.EntryCut.{Ends}
-use Rattle.entry.proofs.HeldLaws.{start-zero}
+use Rattle.entry.proofs.StringsLaws.{start-zero}
 use Rattle.ledger.specs.Strict.{partBy}
 use Rattle.ledger.specs.declared.scan.Profile.{Profile}
 use Rattle.row.proofs.LineLaws.{feeds-append}

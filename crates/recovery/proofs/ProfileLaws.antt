@@ -11,7 +11,7 @@ use Rattle.amount.proofs.RowCounts.{refusalKind}
 use Rattle.row.specs.declared.table.Row.{Row}
 use Rattle.row.specs.Row.{feeds}
 use Rattle.text.specs.Boundaries.{isStart}
-use Rattle.entry.specs.Lost.{whole}
+use Rattle.entry.specs.Strings.{strings, NoneHolds}
 use Rattle.entry.proofs.EntryCut.{Ends}
 use Rattle.ledger.specs.Plain.{moved, accepted, denied, readFrom, partAt, part, plain}
 use Rattle.ledger.specs.Strict.{firstRefused, judged, partBy, readingBy}
@@ -82,7 +82,7 @@ passes-strict : (s : List ℕ) (rs : List Row) → part s ≡ accepted rs → Pa
 unfolding judged
 passes-strict s rs p c = ap (judged s) p ∙ passes-all s rs (accepted rs) c
 
-pub by-cut : (K : Profile) (x y : List ℕ) (rs : List Row) → Ends x → isStart (getD y 0 0) ≡ true → partBy K (x ++ y) ≡ accepted rs → whole (x ++ y) rs ≡ true
+pub by-cut : (K : Profile) (x y : List ℕ) (rs : List Row) → Ends x → isStart (getD y 0 0) ≡ true → partBy K (x ++ y) ≡ accepted rs → NoneHolds (strings (x ++ y) rs)
     → (us : List Row) × (vs : List Row) × (partBy K x ≡ accepted us) × (partBy K y ≡ accepted vs) × (rs ≡ us ++ moved (length x) (feeds x) vs)
 by-cut Plain x y rs e b h w = part-cut x y rs e b h w
 by-cut Strict x y rs e b h w =

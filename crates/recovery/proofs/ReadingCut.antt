@@ -15,15 +15,15 @@ use Rattle.row.specs.declared.table.Row.{Row}
 use Rattle.row.specs.Row.{feeds}
 use Rattle.text.specs.Boundaries.{isStart}
 use Rattle.entry.specs.Entry.{Reads, got, refuse, entryOf}
-use Rattle.entry.specs.Lost.{whole}
+use Rattle.entry.specs.Strings.{strings, NoneHolds}
 use Rattle.entry.proofs.EntryCut.{Ends, entry-cut}
 use Rattle.entry.proofs.EntryForms.{entry-sound}
-use Rattle.entry.proofs.HeldLaws.{whole-append}
+use Rattle.entry.proofs.StringsLaws.{none-first, none-second}
 use Rattle.ledger.specs.Plain.{moved, Reading, accepted, denied, after, readFrom, partAt, part}
 use Rattle.ledger.specs.steps.Scan.{movedReading}
 use Rattle.ledger.proofs.PlainLaws.{read-nil, read-got, read-refuse, after-accepted}
 use Rattle.ledger.proofs.MoveLaws.{after-none, after-after, read-move, read-bound}
-use Rattle.ledger.proofs.WholeMoved.{whole-moved}
+use Rattle.ledger.proofs.StringsMoved.{strings-moved}
 use Rattle.text.proofs.PlainLaws.{clean-le}
 use Rattle.recovery.proofs.BlockLaws.{ends-drop, feeds-parts}
 
@@ -41,7 +41,7 @@ join-after ds (denied n p) w = refl
 module _ (h : ℕ) (y u : List ℕ) (b : isStart (getD y 0 0) ≡ true) where
   -- what is to be shown of a text x that stands at place a of u, before y
   Cut : ℕ → ℕ → ℕ → ℕ → List ℕ → List Row → Type 0
-  Cut f g a l x rs = Ends x → drop a u ≡ x ++ y → readFrom f a l (x ++ y) ≡ accepted rs → whole u rs ≡ true
+  Cut f g a l x rs = Ends x → drop a u ≡ x ++ y → readFrom f a l (x ++ y) ≡ accepted rs → NoneHolds (strings u rs)
       → readFrom f a l (x ++ y) ≡ join (readFrom g a l x) (readFrom h (a + length x) (l + feeds x) y)
 
   cut-got : (f g a l : ℕ) (x : List ℕ) (rs : List Row) → 0 < length x → length x + length y ≤ suc f → length x ≤ suc g
@@ -51,8 +51,8 @@ module _ (h : ℕ) (y u : List ℕ) (b : isStart (getD y 0 0) ≡ true) where
   cut-got f g a l x rs some hf hg ih n ds q e d r w =
       let both : 0 < length (x ++ y) = rw length-append (omega arith) in
       let c = after-accepted (moved a l ds) (readFrom f (a + n) (l + feeds (take n (x ++ y))) (drop n (x ++ y))) rs (sym (read-got f a l (x ++ y) n ds both q) ∙ r) in
-      let ww = whole-append u (moved a l ds) (c .0) (subst (λ z. whole u z ≡ true) (c .2) w) in
-      let wx : whole (x ++ y) ds ≡ true = ap (λ z. whole z ds) (sym d) ∙ sym (whole-moved u a l ds) ∙ ww .0 in
+      let ww : NoneHolds (strings u (moved a l ds ++ c .0)) = rw (c .2) at w in
+      let wx : NoneHolds (strings (x ++ y) ds) = rw (strings-moved u a l ds, d) at (none-first u (moved a l ds) (c .0) ww) in
       let k = entry-cut x y n ds some e b q wx in
       let nl : n ≤ length x = k .0 in
       let np = entry-sound x n ds (k .1) in
@@ -74,7 +74,7 @@ module _ (h : ℕ) (y u : List ℕ) (b : isStart (getD y 0 0) ≡ true) where
         ← ea,
         ← el,
       )
-      (ap (after (moved a l ds)) (ih (a + n) m z (c .0) (omega arith) (omega arith) (ends-drop n x nl e) dz rz (ww .1)))
+      (ap (after (moved a l ds)) (ih (a + n) m z (c .0) (omega arith) (omega arith) (ends-drop n x nl e) dz rz (none-second u (moved a l ds) (c .0) ww)))
 
   cut-step : (f g a l : ℕ) (x : List ℕ) (rs : List Row) → 0 < length x → length x + length y ≤ suc f → length x ≤ suc g
       → ((m k : ℕ) (z : List ℕ) (vs : List Row) → length z + length y ≤ f → length z ≤ g → Cut f g m k z vs) → Cut (suc f) (suc g) a l x rs
@@ -99,7 +99,7 @@ module _ (h : ℕ) (y u : List ℕ) (b : isStart (getD y 0 0) ≡ true) where
   read-cut (suc f) zero a l (c ∷ x) rs hf hg hh e d r w = absurd (omega arith)
   read-cut (suc f) (suc g) a l (c ∷ x) rs hf hg hh e d r w = cut-step f g a l (c ∷ x) rs (omega arith) hf hg (λ m k z vs p q. read-cut f g m k z vs p q hh) e d r w
 
-  reading-cut : (x : List ℕ) (rs : List Row) → length y ≤ h → Ends x → u ≡ x ++ y → readFrom (length (x ++ y)) 0 1 (x ++ y) ≡ accepted rs → whole u rs ≡ true
+  reading-cut : (x : List ℕ) (rs : List Row) → length y ≤ h → Ends x → u ≡ x ++ y → readFrom (length (x ++ y)) 0 1 (x ++ y) ≡ accepted rs → NoneHolds (strings u rs)
       → readFrom (length (x ++ y)) 0 1 (x ++ y) ≡ join (readFrom (length x) 0 1 x) (readFrom h (0 + length x) (1 + feeds x) y)
   unfolding Cut
   reading-cut x rs hh e d r w = read-cut (length (x ++ y)) (length x) 0 1 x rs (rw length-append (omega arith)) (omega arith) hh e d r w
@@ -144,7 +144,7 @@ join-cases a l (accepted us) (accepted vs) rs e = (us, vs, refl, refl, cc)
 join-cases a l (accepted us) (denied n p) rs e = absurd (let z : _≡_ {A = ℕ} 0 1 = cc in omega arith)
 join-cases a l (denied n p) w rs e = absurd (let z : _≡_ {A = ℕ} 0 1 = cc in omega arith)
 
-pub part-cut : (x y : List ℕ) (rs : List Row) → Ends x → isStart (getD y 0 0) ≡ true → part (x ++ y) ≡ accepted rs → whole (x ++ y) rs ≡ true
+pub part-cut : (x y : List ℕ) (rs : List Row) → Ends x → isStart (getD y 0 0) ≡ true → part (x ++ y) ≡ accepted rs → NoneHolds (strings (x ++ y) rs)
     → (us : List Row) × (vs : List Row) × (part x ≡ accepted us) × (part y ≡ accepted vs) × (rs ≡ us ++ moved (length x) (feeds x) vs)
 part-cut x y rs e b h w =
     let k = part-cases (x ++ y) rs h in

@@ -3,7 +3,6 @@ use Prim.Native.Nat.{ℕ, zero, suc, _+_, _<_, _≤_}
 use native.Mathlib.Nat.{zero-add}
 use native.Mathlib.Omega.{arith}
 use mathlib.Core.Path.{_≡_, sym, ap, subst, _∙_}
-use mathlib.Core.Bool.{true}
 use mathlib.Core.Logic.{⊎-elim}
 use mathlib.Core.List.{List, [], _∷_, _++_, append-nil, map-append}
 use borrow.Author.Tests.{le-leb}
@@ -12,15 +11,15 @@ use lib.Seq.{take-all, drop-append-seam}
 use Rattle.row.specs.declared.table.Row.{Row}
 use Rattle.row.specs.Row.{feeds, room}
 use Rattle.row.proofs.PourLaws.{le-or-lt}
-use Rattle.entry.specs.Lost.{whole}
-use Rattle.entry.proofs.HeldLaws.{whole-append}
+use Rattle.entry.specs.Strings.{strings, NoneHolds}
+use Rattle.entry.proofs.StringsLaws.{none-second}
 use Rattle.ledger.specs.Plain.{move, moved, accepted}
 use Rattle.ledger.specs.Strict.{partBy}
 use Rattle.ledger.specs.declared.scan.Profile.{Profile}
 use Rattle.ledger.specs.Answers.{answer, left}
 use Rattle.ledger.proofs.MoveLaws.{moved-moved}
 use Rattle.ledger.proofs.ReadLaws.{rows-stay}
-use Rattle.ledger.proofs.WholeMoved.{whole-moved}
+use Rattle.ledger.proofs.StringsMoved.{strings-moved}
 use Rattle.ledger.proofs.PlainLaws.{accepted-same}
 use Rattle.recovery.specs.Recovering.{blockLength, blockRows, recoverBy, recoveredBy}
 use Rattle.recovery.specs.Demand3.{Given, thenTail, Demand3, Demand3Call, Undamaged}
@@ -28,10 +27,9 @@ use Rattle.recovery.proofs.BlockLaws.{block-le, block-some, block-bound
 use Rattle.recovery.proofs.CallLaws.{starts-is, ends-is, recovered-is}
 use Rattle.recovery.proofs.ProfileLaws.{by-nil, by-part, by-size, by-cut}
 
-behind-whole : (x y : List ℕ) (l : ℕ) (us vs rs : List Row) → rs ≡ us ++ moved (length x) l vs → whole (x ++ y) rs ≡ true → whole y vs ≡ true
-behind-whole x y l us vs rs e w =
-    let k = whole-append (x ++ y) us (moved (length x) l vs) (subst (λ z. whole (x ++ y) z ≡ true) e w) in
-    ap (λ z. whole z vs) (sym (drop-append-seam x y)) ∙ sym (whole-moved (x ++ y) (length x) l vs) ∙ k .1
+none-behind : (x y : List ℕ) (l : ℕ) (us vs rs : List Row) → rs ≡ us ++ moved (length x) l vs → NoneHolds (strings (x ++ y) rs) → NoneHolds (strings y vs)
+none-behind x y l us vs rs e w =
+    rw (strings-moved (x ++ y) (length x) l vs, drop-append-seam x y) at (none-second (x ++ y) us (moved (length x) l vs) (rw e at w))
 
 module _ (K : Profile) where
   -- ---- recovering reading of a text that plain reading accepts, none of whose strings holds a boundary, gives its plain rows
@@ -44,17 +42,17 @@ module _ (K : Profile) where
       let lx : length (take (blockLength s) s) ≡ blockLength s = rw length-take (omega (arith, block-le s)) in
       rw (recover-step K f a l s h, eu, ev, er, map-append (move a l) us, lx, moved-moved a l (blockLength s) (feeds (take (blockLength s) s)) vs)
 
-  plain-step : (f a l : ℕ) (s : List ℕ) (rs : List Row) → 0 < length s → length s ≤ suc f → partBy K s ≡ accepted rs → whole s rs ≡ true
-      → ((n k : ℕ) (z : List ℕ) (vs : List Row) → length z ≤ f → partBy K z ≡ accepted vs → whole z vs ≡ true → recoverBy K f n k z ≡ moved n k vs)
+  plain-step : (f a l : ℕ) (s : List ℕ) (rs : List Row) → 0 < length s → length s ≤ suc f → partBy K s ≡ accepted rs → NoneHolds (strings s rs)
+      → ((n k : ℕ) (z : List ℕ) (vs : List Row) → length z ≤ f → partBy K z ≡ accepted vs → NoneHolds (strings z vs) → recoverBy K f n k z ≡ moved n k vs)
       → recoverBy K (suc f) a l s ≡ moved a l rs
   unfolding blockRows
   plain-step f a l s rs h hf e ww ih =
       ⊎-elim
       (λ (w : 1 ≤ length y).
       let b = block-boundary s w in
-      let w2 : whole (x ++ y) rs ≡ true = rw (take-append-drop n s) ww in
+      let w2 : NoneHolds (strings (x ++ y) rs) = rw (take-append-drop n s) ww in
       let c = by-cut K x y rs (b .0) (b .1) (rw (take-append-drop n s) e) w2 in
-      two-parts f a l s (c .0) (c .1) rs h (c .2) (ih (a + n) (l + feeds x) y (c .1) ly (c .3) (behind-whole x y (feeds x) (c .0) (c .1) rs (c .4) w2)) (c .4))
+      two-parts f a l s (c .0) (c .1) rs h (c .2) (ih (a + n) (l + feeds x) y (c .1) ly (c .3) (none-behind x y (feeds x) (c .0) (c .1) rs (c .4) w2)) (c .4))
       (λ (w : length y < 1).
       let ex : x ≡ s = take-all n s (omega (arith, length-drop n s)) in
       let ey : y ≡ [] = drop-of-length-le s {i = n} (omega (arith, length-drop n s)) in
@@ -73,7 +71,7 @@ module _ (K : Profile) where
       ly : length y ≤ f
       ly = rw length-drop (omega (arith, block-some s h))
 
-  recover-plain : (f a l : ℕ) (s : List ℕ) (rs : List Row) → length s ≤ f → partBy K s ≡ accepted rs → whole s rs ≡ true → recoverBy K f a l s ≡ moved a l rs
+  recover-plain : (f a l : ℕ) (s : List ℕ) (rs : List Row) → length s ≤ f → partBy K s ≡ accepted rs → NoneHolds (strings s rs) → recoverBy K f a l s ≡ moved a l rs
   recover-plain zero a l [] rs h e w = rw (recover-nil K zero a l, by-nil K rs e)
   recover-plain zero a l (c ∷ s) rs h e w = absurd (omega arith)
   recover-plain (suc f) a l [] rs h e w = rw (recover-nil K (suc f) a l, by-nil K rs e)

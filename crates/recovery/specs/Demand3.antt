@@ -1,10 +1,13 @@
--- Demand 3. Take a tail that starts a line with a digit or small letter, that plain reading accepts, and none of whose strings, as document 01 counts them, holds a
--- line starting so. Put any bytes before it, none or ending in a line feed. With the size limit kept and room for all rows, recovering reading gives for the tail
--- plain reading's rows, moved by the length and line feeds before it. A refused block gives one refusal row.
+-- Demand 3. Take a tail that starts a line with a digit or small letter, that plain reading accepts, and none of whose
+-- strings, as document 01 counts them, holds a line starting so. Put any bytes before it, none or ending in a line feed.
+-- With the size limit kept and room for all rows, recovering reading gives for the tail plain reading's rows, moved by the
+-- length and line feeds before it. A refused block gives one refusal row.
 --
--- It is said of both profiles, K: strict reading of a tail, and strict recovering reading, as plain reading and recovering reading.
+-- It is said of both profiles, K: strict reading of a tail, and strict recovering reading, as plain reading and
+-- recovering reading.
 --
--- The reading rules enter by three names alone: `readingBy`, plain or strict reading; `recoveredBy`, recovering reading; `whole`, demand 3's strings.
+-- The reading rules enter by three names alone: `readingBy`, plain or strict reading; `recoveredBy`, recovering reading;
+-- `strings`, demand 3's strings.
 use Prim.Native.Nat.{ℕ, _+_, _*_, _≤_}
 use Prim.Native.Char.{code}
 use mathlib.Core.Path.{_≡_}
@@ -18,7 +21,7 @@ use Rattle.text.specs.Permitted.{sizeLimit}
 use Rattle.row.specs.declared.table.Row.{Row}
 use Rattle.row.specs.Row.{rowOf, rowsBytes, width, feeds, room}
 use Rattle.text.specs.Boundaries.{holds}
-use Rattle.entry.specs.Lost.{whole}
+use Rattle.entry.specs.Strings.{strings, NoneHolds}
 use Rattle.ledger.specs.Plain.{moved, accepted, denied}
 use Rattle.ledger.specs.Strict.{readingBy}
 use Rattle.ledger.specs.Answers.{answer, left}
@@ -40,17 +43,12 @@ endsLine [] = true
 endsLine (b ∷ []) = eqb b (code "\n")
 endsLine (b ∷ c ∷ s) = endsLine (c ∷ s)
 
--- the strings of a text with these rows: the spans of kinds 21, 22, 32, 34, the values of 35, and both strings of an event line whose line end misses; none of
--- them holds a line that starts with a digit or small letter
-abbrev pub keptStrings : List ℕ → List Row → Bool
-keptStrings t rs = whole t rs
-
 -- ---- the tail t has the plain rows ts; the bytes p stand before it
 
 pub record Given (K : Profile) (p t : List ℕ) (ts : List Row) : Type 0 where
   pub starts : startsTail t ≡ true
   pub read : readingBy K t ≡ accepted ts
-  pub strings : keptStrings t ts ≡ true
+  pub strings : NoneHolds (strings t ts)
   pub ends : endsLine p ≡ true
   pub size : length (p ++ t) ≤ sizeLimit
 
@@ -81,7 +79,7 @@ Demand3Call K =
 -- ---- on a ledger that is not damaged, and none of whose strings holds such a line, recovering reading is that reading
 
 abbrev pub Undamaged : Profile → Type 0
-Undamaged K = (s : List ℕ) (rs : List Row) → readingBy K s ≡ accepted rs → keptStrings s rs ≡ true → recoveredBy K s ≡ readingBy K s
+Undamaged K = (s : List ℕ) (rs : List Row) → readingBy K s ≡ accepted rs → NoneHolds (strings s rs) → recoveredBy K s ≡ readingBy K s
 
 -- ---- a refused block gives one refusal row
 

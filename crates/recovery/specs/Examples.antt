@@ -1,17 +1,19 @@
 -- Demand 3 on closed prefixes and tails, as one list under one statement, by computation: it is not empty, and each of its premises is needed.
 use Prim.Native.Nat.{ℕ}
 use mathlib.Core.Path.{_≡_, refl}
-use mathlib.Core.Bool.{Bool, true, false, _&&_}
+use mathlib.Core.Bool.{Bool, true, false, _&&_, not}
 use mathlib.Core.List.{List, [], _∷_, _++_, map}
 use lib.Dec.{eqb}
 use lib.IntN.{ℤ, pos}
 use Rattle.text.specs.Bytes.{bytes}
+use Rattle.text.specs.Boundaries.{holds}
 use Rattle.row.specs.declared.table.Row.{Row}
 use Rattle.row.specs.Row.{rowOf}
+use Rattle.entry.specs.Strings.{strings}
 use Rattle.ledger.specs.Plain.{Reading, accepted, plain}
 use Rattle.ledger.specs.Opened.{opened}
 use Rattle.recovery.specs.Recovering.{blockLength, blockRows, recoverBy, recoveredBy, recovered}
-use Rattle.recovery.specs.Demand3.{startsTail, endsLine, keptStrings, thenTail}
+use Rattle.recovery.specs.Demand3.{startsTail, endsLine, thenTail}
 
 abbrev row : ℕ → ℕ → ℕ → ℕ → ℕ → ℕ → ℤ → Row
 row k a e l p q v = rowOf k a e l p q v
@@ -33,6 +35,10 @@ sameRows [] [] = true
 sameRows [] (u ∷ us) = false
 sameRows (r ∷ rs) [] = false
 sameRows (r ∷ rs) (u ∷ us) = sameRow r u && sameRows rs us
+
+unfoldable pub noneHold : List (List ℕ) → Bool
+noneHold [] = true
+noneHold (x ∷ xs) = not (holds x) && noneHold xs
 
 -- ---- demand 3 holds, and is seen
 
@@ -114,11 +120,11 @@ abbrev Found : Type 0
 Found = Reading × Reading × Reading × Verdict
 
 abbrev found : Case → Found
-found (p, t, ts, ps, rs) = (plain t, recovered p, recovered (p ++ t), (startsTail t, endsLine p, keptStrings t ts, sameRows rs (thenTail ps p ts)))
+found (p, t, ts, ps, rs) = (plain t, recovered p, recovered (p ++ t), (startsTail t, endsLine p, noneHold (strings t ts), sameRows rs (thenTail ps p ts)))
 
 abbrev listed : Verdict → Case → Found
 listed v (p, t, ts, ps, rs) = (accepted ts, accepted ps, accepted rs, v)
 
 pub examples-read : map (λ g. map found (g .0)) examples ≡ map (λ g. map (listed (g .1)) (g .0)) examples
-unfolding opened sameRows blockLength blockRows recoverBy recoveredBy startsTail endsLine
+unfolding opened sameRows noneHold blockLength blockRows recoverBy recoveredBy startsTail endsLine
 examples-read = refl

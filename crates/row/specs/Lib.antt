@@ -2,6 +2,5 @@ pub mod Field
 pub mod Row
 pub mod Work
 pub mod Details
-pub mod Strings
 pub mod Opened
 pub mod steps

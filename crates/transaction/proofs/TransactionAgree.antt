@@ -24,7 +24,6 @@ use Rattle.text.proofs.TextCut.{xs, ys, s, cut, seam, past-end, at-seam, gap-sa
 use Rattle.text.specs.Refusals.{requiredNumber}
 use Rattle.amount.specs.declared.detail.Detail.{Detail}
 use Rattle.amount.specs.Details.{Rows, span}
-use Rattle.row.specs.Strings.{counted}
 use Rattle.row.proofs.SureLaws.{Sure, sure-must, sure-many, sure-and}
 use Rattle.posting.specs.Metadata.{metadata}
 use Rattle.posting.specs.Postings.{body}
@@ -35,14 +34,6 @@ use Rattle.posting.proofs.PostingAlike.{flag-alike}
 use Rattle.posting.proofs.PostingAgree.{longer, line-agree, metadata-agree, sure-metadata, body-agree, sure-body}
 use Rattle.transaction.specs.Transaction.{opening, texts, mark, marks, transaction}
 use Rattle.transaction.proofs.TransactionEnds.{mark-reach, marks-reach, texts-reach}
-
-counted-21 : counted 21 ≡ true
-unfolding counted
-counted-21 = refl
-
-counted-22 : counted 22 ≡ true
-unfolding counted
-counted-22 = refl
 
 pub txn-lf : hasLF (bytes "txn") ≡ false
 unfolding hasLF bytes
@@ -161,7 +152,7 @@ module _ (front t : List ℕ) (b : ℕ) (B : isStart b ≡ true) where
   second-agree a e h =
       else-agree {t = true} (and-agree (gap-alike C (upto e h)) (λ g h₁.
       string-agree front t b B (λ lo hi. span 21 (a + 1) (e - 1) ∷ span 22 lo hi ∷ [])
-      (λ lo hi p q. torn-right M (span 21 (a + 1) (e - 1) ∷ []) (span 22 lo hi ∷ []) (span-torn M 22 lo hi p q counted-22 refl [])) g (omega arith)))
+      (λ lo hi p q. torn-right M (span 21 (a + 1) (e - 1) ∷ []) (span 22 lo hi ∷ []) (span-torn M 22 lo hi p q refl [])) g (omega arith)))
       (same-agree (to-same M e (span 22 (a + 1) (e - 1) ∷ []) h))
 
   -- where the first crosses, so do the rows
@@ -169,8 +160,8 @@ module _ (front t : List ℕ) (b : ℕ) (B : isStart b ≡ true) where
   second-torn a e c h k l =
       past-else c e _
       (and-past M N (e + 1) (gap S e) _ (gap-reach S e l) (λ g p q.
-      and-past M N (g + 1) (string S g) _ (string-reach S g) (λ f u v. past f _ (omega arith) (span-torn M 21 (a + 1) (e - 1) h k counted-21 refl _))))
-      (omega arith) (span-torn M 22 (a + 1) (e - 1) h k counted-22 refl _)
+      and-past M N (g + 1) (string S g) _ (string-reach S g) (λ f u v. past f _ (omega arith) (span-torn M 21 (a + 1) (e - 1) h k refl _))))
+      (omega arith) (span-torn M 22 (a + 1) (e - 1) h k refl _)
 
   first-agree : (a : ℕ) → a < M → Agrees M M false (string S a and λ e. second S a e) (string X a and λ e. second X a e)
   unfolding string token _and_ more
