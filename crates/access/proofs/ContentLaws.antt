@@ -56,7 +56,8 @@ pub ruleset taken-laws = (taken-one, taken-first, taken-quote, taken-two, taken-
 
 -- ---- measuring
 
--- the answer from place i of the string on, where content c is left and n bytes were counted: valid if the string ends at m
+-- the answer from place i of the string on, where content c is left and n bytes were counted: valid if the string ends
+-- at m
 unfoldable pub left : Bool → List ℕ → ℕ → ℕ → ℕ → Measured
 left o c i m n = cond (endsAt m (strFrom o (c ++ (34 ∷ [])) i)) (Measured.Bytes (n + length (unescaped c))) Measured.Bad
 

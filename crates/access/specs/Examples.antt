@@ -1,5 +1,5 @@
--- Document 01's edges of single expressions and of string content, and the examples of the decided points 4 to 10 and 25: one list under
--- one statement for each, by computation.
+-- Document 01's edges of single expressions and of string content, and the examples of the decided points 4 to 10 and
+-- 25: one list under one statement for each, by computation.
 use Prim.Native.Nat.{ℕ}
 use Prim.Native.Char.{code}
 use Prim.Native.String.{String}

@@ -48,6 +48,7 @@ unfoldable pub lastNamed : List ℕ → List ℕ → List ℕ → ℕ → ℕ
 lastNamed s t tag zero = 0
 lastNamed s t tag (suc n) = cond (names s t tag n) (rowAt t n .kind) (lastNamed s t tag n)
 
--- after the first k rows: yes if the last of the rows that do, whose next row is also among the k, is a 4; k over the room is 10
+-- after the first k rows: yes if the last of the rows that do, whose next row is also among the k, is a 4; k over the
+-- room is 10
 unfoldable pub inForce : List ℕ → List ℕ → ℕ → List ℕ → Force
 inForce s t k tag = cond (leb k (room t)) (cond (eqb (lastNamed s t tag (k - 1)) pushtagKind) Force.Yes Force.Not) (Force.Refusal 10)

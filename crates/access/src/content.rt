@@ -13,7 +13,8 @@ enum Measured {
     Bad,
 }
 
-// How many bytes stand for the next byte of a string: 1 for an ordinary byte, 2 for an escape, 0 where neither may stand.
+// How many bytes stand for the next byte of a string: 1 for an ordinary byte, 2 for an escape, 0 where neither may
+// stand.
 fn taken_by(ordinary: bool, b: u8, next: u8) -> usize
     ensures { λ r. ⌜ r ≡ taken ordinary b next ⌝ }
 {

@@ -34,8 +34,9 @@ factor-is : (k : ℕ) → k ≤ 6 → factor k * 10 ^ k ≡ 1000000
 unfolding factor
 factor-is k h = sym (pow-add 10 (6 - k) k) ∙ ap (λ n. 10 ^ n) {x = 6 - k + k} {y = 6} (omega arith)
 
--- Of a number N with j places are kept: the size w of its whole part, n with k places, and whether a digit after these is not 0. Either the
--- whole part is too large; or the digits after these make x, less than p, the power of ten for as many.
+-- Of a number N with j places are kept: the size w of its whole part, n with k places, and whether a digit after these
+-- is not 0. Either the whole part is too large; or the digits after these make x, less than p, the power of ten for as
+-- many.
 pub data Keeps (w n k : ℕ) (tail : Bool) (N j : ℕ) : Type 0 where
   too-large : 1000000000 ≤ w → 1000000000 * 10 ^ j ≤ N → Keeps w n k tail N j
   kept : w < 1000000000 → k ≤ 6 → (p x : ℕ) → 10 ^ j ≡ p * 10 ^ k → N ≡ n * p + x → x < p → (k < 6 → p ≡ 1) → tail ≡ ltb 0 x → Keeps w n k tail N j

@@ -1,4 +1,5 @@
--- How the code follows rule 8. It holds answers r, each known as `answerOf` of the rule's, and by a match which of the three r is.
+-- How the code follows rule 8. It holds answers r, each known as `answerOf` of the rule's, and by a match which of the
+-- three r is.
 use Prim.Native.Nat.{ℕ, zero, suc, _+_, _-_, _^_, _≤_, _<_}
 use mathlib.Core.Path.{_≡_, refl, sym, ap, _∙_}
 use mathlib.Core.Bool.{Bool, true, false, cond}

@@ -1,5 +1,5 @@
--- The answers of the code that reads a literal: at each return, and each way round a loop, what the code knows there. r is what its test
--- for a digit gave.
+-- The answers of the code that reads a literal: at each return, and each way round a loop, what the code knows there. r
+-- is what its test for a digit gave.
 use Prim.Native.Nat.{ℕ, _+_, _-_, _*_, _^_, _≤_, _<_}
 use mathlib.Core.Path.{_≡_, sym, _∙_, ap}
 use mathlib.Core.Bool.{Bool, true, false, cond}

@@ -1,4 +1,5 @@
--- Readers that make exactly one row where they read, of a kind that is not 0: what the code's answer tells of the rule's, and the joins of such readers.
+-- Readers that make exactly one row where they read, of a kind that is not 0: what the code's answer tells of the
+-- rule's, and the joins of such readers.
 use Prim.Native.Nat.{ℕ, _+_, _≤_}
 use mathlib.Core.Path.{_≡_, refl}
 use mathlib.Core.Bool.{Bool, true, false, cond}

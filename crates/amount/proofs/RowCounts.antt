@@ -1,6 +1,6 @@
--- The rows of a reading from k to j: they stand in order of start, start from k to j, at j only in mid-line, end at j at
--- the latest, have the kinds that their rule makes, and are no more than the bytes. What they hold fits: places of the
--- text, dates, bytes, and values within the limit. Tokens make none.
+-- The rows of a reading from k to j: they stand in order of start, start from k to j, at j only in mid-line, end at j
+-- at the latest, have the kinds that their rule makes, and are no more than the bytes. What they hold fits: places of
+-- the text, dates, bytes, and values within the limit. Tokens make none.
 use Prim.Native.Nat.{ℕ, zero, suc, _+_, _-_, _≤_, _<_}
 use native.Mathlib.Omega.{arith}
 use mathlib.Core.Path.{_≡_, refl, subst}

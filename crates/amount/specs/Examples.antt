@@ -1,4 +1,5 @@
--- Document 01's edges of expressions, and the examples of the decided points 4, 5, 6, 8 and 9: one list under one statement, by computation.
+-- Document 01's edges of expressions, and the examples of the decided points 4, 5, 6, 8 and 9: one list under one
+-- statement, by computation.
 use Prim.Native.Nat.{ℕ}
 use Prim.Native.Char.{code}
 use Prim.Native.String.{String}

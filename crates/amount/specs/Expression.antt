@@ -1,6 +1,6 @@
--- Rule 8. Expression: `-`, blanks, group (a negation, ending there), else a sum of products of atoms, left to right, blanks around
--- operators. Atom: literal or group. Group: `(`, blanks, expression, blanks, `)`. An expression may hold a group and a group holds an
--- expression. A reading gives its end with its value or the value's refusal.
+-- Rule 8. Expression: `-`, blanks, group (a negation, ending there), else a sum of products of atoms, left to right,
+-- blanks around operators. Atom: literal or group. Group: `(`, blanks, expression, blanks, `)`. An expression may hold
+-- a group and a group holds an expression. A reading gives its end with its value or the value's refusal.
 use Prim.Native.Nat.{ℕ, zero, suc, _+_}
 use Prim.Native.Char.{code}
 use mathlib.Core.Bool.{Bool, true, false, cond, _||_}
@@ -50,8 +50,8 @@ isPlus b = eqb b (code "+") || eqb b (code "-")
 unfoldable pub isTimes : ℕ → Bool
 isTimes b = eqb b (code "*") || eqb b (code "/")
 
--- operators and operands x that go on from the value v, which ends at e: at most k of them. Where an operand misses, the reading ends
--- before its operator.
+-- operators and operands x that go on from the value v, which ends at e: at most k of them. Where an operand misses,
+-- the reading ends before its operator.
 unfoldable pub goesOn : Arithmetic → (ℕ → Bool) → (ℕ → Ans Value) → List ℕ → ℕ → Value → ℕ → Ans Value
 goesOn calc op x s zero v e = To e v
 goesOn calc op x s (suc k) v e =

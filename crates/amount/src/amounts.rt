@@ -15,7 +15,8 @@ ghost use mathlib.Core.List.{[], _∷_};
 ghost use Rattle.amount.specs.Amounts.{amount, hardAmount, priceOf};
 ghost use Rattle.amount.specs.steps.Answers.{oneOf, pairOf, amountEnd, pricedFrom};
 
-// The content of a price directive: where it ends, the row of its currency and that of its amount; or a refusal with its place.
+// The content of a price directive: where it ends, the row of its currency and that of its amount; or a refusal with
+// its place.
 pub enum Priced {
     Read(usize, Detail, Detail),
     Hard(usize, usize),

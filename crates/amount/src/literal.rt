@@ -13,15 +13,16 @@ ghost use Rattle.amount.specs.Literal.{unsigned, literal};
 ghost use Rattle.amount.specs.steps.Kept.{wholeFrom, fractionFrom, factor, keptValue, wholeLiteral, pointLiteral, wholeLimit, keptLimit};
 ghost use Rattle.amount.specs.steps.Answers.{answerOf};
 
-// The digits before a point: where they end, their number, which stops growing once it is too large, and whether there are any.
+// The digits before a point: where they end, their number, which stops growing once it is too large, and whether there
+// are any.
 struct Whole {
     end: usize,
     size: u64,
     digits: bool,
 }
 
-// The digits before and after a point: where they end, the number of those that are kept, how many of these stand after the point, six at
-// most, whether there are any, and whether one that is not kept is not 0.
+// The digits before and after a point: where they end, the number of those that are kept, how many of these stand after
+// the point, six at most, whether there are any, and whether one that is not kept is not 0.
 struct Fraction {
     end: usize,
     size: u64,
@@ -68,7 +69,8 @@ fn whole_part(s: &[u8], at: usize) -> Whole
     }
 }
 
-// The digits after the point, which ends at `at`; `before` is the number of those before it, and `any` says whether there are any.
+// The digits after the point, which ends at `at`; `before` is the number of those before it, and `any` says whether
+// there are any.
 fn fraction_part(s: &[u8], at: usize, before: u64, any: bool) -> Fraction
     requires { ⌜ before < wholeLimit ⌝ }
     ensures { λ r. ⌜ r ≡ fractionFrom before 0 any false (drop at (now (s .entry))) at ⌝ }

@@ -82,8 +82,8 @@ abbrev refused : List ℕ → ℕ → ℕ → Read
 refused p number place = (0 ∷ p, Step.Refusal number place 0)
 
 -- the end; a row; a row and its text; a field cut short in its head or its content; a packet that ends where a text is
--- due; a tag that is unknown, not its kind's, or a text's where a row is due; a row length that is not a row's; a row where
--- a text is due; cut short goes before a wrong tag; a text over the room
+-- due; a tag that is unknown, not its kind's, or a text's where a row is due; a row length that is not a row's; a row
+-- where a text is due; cut short goes before a wrong tag; a text over the room
 unfoldable pub reading : List Read
 reading =
     hands [] Step.End

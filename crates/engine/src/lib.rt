@@ -1,4 +1,5 @@
-// The second engine (M-113): rule 8 with what is pending in a table of fixed size. One loop, and no reader calls itself.
+// The second engine (M-113): rule 8 with what is pending in a table of fixed size. One loop, and no reader calls
+// itself.
 use amount::expression;
 use amount::expression::Answer;
 use amount::expression::GROUPS;

@@ -1,5 +1,5 @@
--- Locality of rules 4, 14, 15 and 1: what follows a text that ends in a line feed does not count, if it starts with a boundary's byte, but for strings, which may
--- cross the cut. M is the text's length.
+-- Locality of rules 4, 14, 15 and 1: what follows a text that ends in a line feed does not count, if it starts with a
+-- boundary's byte, but for strings, which may cross the cut. M is the text's length.
 use Prim.Native.Nat.{ℕ, suc, _+_, _≤_, _<_}
 use Prim.Native.String.{String}
 use native.Mathlib.Omega.{arith}

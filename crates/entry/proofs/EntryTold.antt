@@ -1,4 +1,5 @@
--- Rules 1 and 4: which details an entry has, by its kind. They stand in order of start within its bytes, and are no more than these.
+-- Rules 1 and 4: which details an entry has, by its kind. They stand in order of start within its bytes, and are no
+-- more than these.
 use Prim.Native.Nat.{ℕ, _+_, _≤_, _<_}
 use Prim.Native.String.{String}
 use native.Mathlib.Omega.{arith}
@@ -53,7 +54,8 @@ pub data Told (s : List ℕ) (n : ℕ) : Form → Type 0 where
   line : (f : Form) → f .kind ≡ 1 → f .details ≡ [] → 1 ≤ n → Told s n f
   -- a transaction's flag stands behind the date and its gap
   txn : (f : Form) → f .kind ≡ 6 → 1 ≤ blanks s 10 → Transacted s n f → Told s n f
-  -- no other directive has a flag, and neither has an option, include, pushtag or poptag, which starts with a small letter
+  -- no other directive has a flag, and neither has an option, include, pushtag or poptag, which starts with a small
+  -- letter
   keyworded : (f : Form) → 7 ≤ f .kind → f .kind ≤ 13 → Placed unflagged s 1 n (f .details) → Told s n f
   worded : (f : Form) → 2 ≤ f .kind → f .kind ≤ 5 → isSmall (getD s 0 0) ≡ true → Placed unflagged s 1 n (f .details) → Told s n f
 

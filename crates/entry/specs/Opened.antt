@@ -1,4 +1,5 @@
--- What a closed text is computed with, opened together by `unfolding opened`: this crate's definitions and those beneath.
+-- What a closed text is computed with, opened together by `unfolding opened`: this crate's definitions and those
+-- beneath.
 use Rattle.entry.specs.Directive
 use Rattle.entry.specs.Forms
 use Rattle.entry.specs.Entry

@@ -94,7 +94,8 @@ pub fn formed_as(kind: usize, date: usize, r: Ran) -> Formed
     }
 }
 
-// A content, line end (a plain miss), metadata. Where the line end misses, the rows that were written are covered by those that come next.
+// A content, line end (a plain miss), metadata. Where the line end misses, the rows that were written are covered by
+// those that come next.
 fn content_end(s: &[u8], at: usize, kind: usize, base: usize, table: &mut [u8], out: Out) -> Ran
     requires { ⌜ Readable base (now s) at out ⌝ }
     ensures { λ r. ⌜ Did base (contentEnd kind (now (s .entry)) at) out (now (table .entry)) (now (table .exit)) r ⌝ }

@@ -272,8 +272,8 @@ fn settled_at(
     Entry::Refused(bad - 1, out.place)
 }
 
-// The entry at the front of s, which starts at `base`; its rows go to the front of the table, where they fit. A refusal's place counts from the
-// entry's start: 3 stands at its group, 4 and 5 at the entry's start.
+// The entry at the front of s, which starts at `base`; its rows go to the front of the table, where they fit. A
+// refusal's place counts from the entry's start: 3 stands at its group, 4 and 5 at the entry's start.
 pub fn entry_at(s: &[u8], base: usize, table: &mut [u8]) -> Entry
     requires { ⌜ (base ≤ sizeLimit) × (length (now s) ≤ sizeLimit) ⌝ }
     ensures { λ r. ⌜ r ≡ entryAnswer (entryOf (now (s .entry))) ⌝ }

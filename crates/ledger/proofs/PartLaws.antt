@@ -1,4 +1,5 @@
--- Plain reading of a part of a ledger: its bytes first, then its entries. A part that stands further on gives its rows moved.
+-- Plain reading of a part of a ledger: its bytes first, then its entries. A part that stands further on gives its rows
+-- moved.
 use Prim.Native.Nat.{ℕ, _+_, _≤_, _<_}
 use native.Mathlib.Nat.{zero-add, add-zero}
 use mathlib.Core.Path.{_≡_, sym, _∙_, ap}

@@ -1,5 +1,5 @@
--- The rows of plain reading: no more than the bytes, in order of start, each on its line and within the text, and none of a
--- refusal row's kind.
+-- The rows of plain reading: no more than the bytes, in order of start, each on its line and within the text, and none
+-- of a refusal row's kind.
 use Prim.Native.Nat.{ℕ, zero, suc, _+_, _-_, _≤_, _<_}
 use native.Mathlib.Nat.{zero-add, add-zero, add-assoc}
 use native.Mathlib.Omega.{arith}

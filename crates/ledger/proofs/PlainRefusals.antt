@@ -1,4 +1,5 @@
--- A refusal of plain reading, and of strict reading: its number is one of the call's list, its place stands within the text.
+-- A refusal of plain reading, and of strict reading: its number is one of the call's list, its place stands within the
+-- text.
 use Prim.Native.Nat.{ℕ, zero, suc, _+_, _≤_, _<_}
 use native.Mathlib.Omega.{arith}
 use mathlib.Core.Path.{_≡_, refl, sym, _∙_, subst}

@@ -1,5 +1,6 @@
--- M-110, the strict profile. Plain reading, and then a judgement of its rows: a ledger that plain reading accepts is refused if it has a lost line (16) or
--- a transaction's flag other than `*` or `!` (17). The first such row decides, with its number, at its start.
+-- M-110, the strict profile. Plain reading, and then a judgement of its rows: a ledger that plain reading accepts is
+-- refused if it has a lost line (16) or a transaction's flag other than `*` or `!` (17). The first such row decides,
+-- with its number, at its start.
 use Prim.Native.Nat.{ℕ}
 use Prim.Native.Char.{code}
 use mathlib.Core.Bool.{Bool, true, false, cond, not, _||_, _&&_}
@@ -28,7 +29,8 @@ unfoldable pub missed : Read → Bool
 missed (Read.To j) = false
 missed Read.Miss = true
 
--- a blank entry with the text u that starts with a digit, with blanks followed by something other than a comment or line end, or with `option`
+-- a blank entry with the text u that starts with a digit, with blanks followed by something other than a comment or
+-- line end, or with `option`
 unfoldable pub lostLine : List ℕ → Bool
 lostLine u = isDigit (getD u 0 0) || (isBlank (getD u 0 0) && missed (lineEndAt u 0)) || startsWith (bytes "option") u
 
@@ -40,7 +42,8 @@ isUsual b = eqb b (code "*") || eqb b (code "!")
 unfoldable pub otherFlag : List ℕ → Bool
 otherFlag u = not (isUsual (getD u 0 0))
 
--- the number by which a row of the text s is refused, or 0 for none: kind 1 is a blank entry, kind 20 a transaction's flag
+-- the number by which a row of the text s is refused, or 0 for none: kind 1 is a blank entry, kind 20 a transaction's
+-- flag
 unfoldable pub objection : List ℕ → Row → ℕ
 objection s r =
     let u = between s (r .start) (r .end) in

@@ -36,7 +36,8 @@ StrictRows = (s : List ℕ) (rs : List Row) → strict s ≡ accepted rs → pla
 abbrev pub PlainFirst : Type 0
 PlainFirst = (s : List ℕ) (n p : ℕ) → plain s ≡ denied n p → strict s ≡ denied n p
 
--- where plain reading accepts, strict accepts exactly if no row is refused, and refuses exactly by the first row that is, with 16 or 17
+-- where plain reading accepts, strict accepts exactly if no row is refused, and refuses exactly by the first row that
+-- is, with 16 or 17
 pub record Exactly (s : List ℕ) (rs : List Row) : Type 0 where
   pub accepts : Passes s rs → strict s ≡ accepted rs
   pub accepted-passes : strict s ≡ accepted rs → Passes s rs

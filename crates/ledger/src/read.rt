@@ -44,7 +44,8 @@ pub fn verdict(ledger: &[u8], profile: Profile) -> Scan
     scan::part(ledger, 0, &mut none, profile)
 }
 
-// The second pass, which writes: n rows, if there is room for them. It is lent the part of the table that they fill, so that no other byte changes.
+// The second pass, which writes: n rows, if there is room for them. It is lent the part of the table that they fill, so
+// that no other byte changes.
 fn written(ledger: &[u8], table: &mut [u8], n: usize, profile: Profile) -> Answer
     requires { ⌜ Scan.Whole n ≡ scanAnswer (readingBy profile (now ledger)) ⌝ }
     ensures answer { λ r. ⌜ r ≡ answer (readingBy profile (now (ledger .entry))) (room (now (table .entry))) ⌝ }

@@ -37,7 +37,8 @@ fn first_of(first: Objection, at: usize, o: Objection) -> Objection
     first
 }
 
-// The same for the entry of a kind and so many bytes at the front of s, which stands at a place; plain reading has none.
+// The same for the entry of a kind and so many bytes at the front of s, which stands at a place; plain reading has
+// none.
 fn noted(
     held: Objection,
     s: &[u8],
@@ -66,8 +67,8 @@ fn ended(base: usize, n: usize, held: Objection) -> Scan
     Scan::Stopped(held.number, base + held.place)
 }
 
-// Reads s, which starts at place `base` of a ledger; the rows go to the table's front, where they fit, with no lines yet. What stands behind
-// them in the table may change too.
+// Reads s, which starts at place `base` of a ledger; the rows go to the table's front, where they fit, with no lines
+// yet. What stands behind them in the table may change too.
 pub fn entries(s: &[u8], base: usize, table: &mut [u8], profile: Profile) -> Scan
     requires { ⌜ base + length (now s) ≤ sizeLimit ⌝ }
     ensures answer { λ r. ⌜ r ≡ scanAnswer (scannedBy profile base (now (s .entry))) ⌝ }

@@ -1,4 +1,5 @@
--- Each export's promise fixes its answer: two answers that meet it are equal, with every lent byte; and for every input there is one.
+-- Each export's promise fixes its answer: two answers that meet it are equal, with every lent byte; and for every input
+-- there is one.
 use Prim.Native.Nat.{ℕ}
 use mathlib.Core.Path.{_≡_, refl, sym, _∙_}
 use mathlib.Core.Bool.{Bool, true, false}

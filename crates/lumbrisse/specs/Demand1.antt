@@ -1,9 +1,9 @@
--- Demand 1. Any bytes at all get either rows or a numbered refusal with its place. No call relies on its caller. After a
--- refusal every lent buffer holds what it held.
+-- Demand 1. Any bytes at all get either rows or a numbered refusal with its place. No call relies on its caller. After
+-- a refusal every lent buffer holds what it held.
 --
--- Said of document 01's calls, for every input (`Demand1Requests.antt` says it of document 02's). An answer that meets the
--- export's promise (`Promises.antt`; exactly one does, as `proofs/Unique.antt` shows) is one of three, and after the last
--- two every lent byte is as it was:
+-- Said of document 01's calls, for every input (`Demand1Requests.antt` says it of document 02's). An answer that meets
+-- the export's promise (`Promises.antt`; exactly one does, as `proofs/Unique.antt` shows) is one of three, and after
+-- the last two every lent byte is as it was:
 --     accepts   number 0, with the rows or the value that the definitions give
 --     lacks     number 9 at place 0, and for a count what the definitions need, which is more than was lent
 --     refuses   a number of the call's own list, a place within the text, which is 0 for number 1, and no count

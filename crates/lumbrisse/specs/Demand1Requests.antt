@@ -1,7 +1,7 @@
 -- Demand 1 of document 02's calls, as `Demand1.antt` says it of document 01's.
 --
--- Working space, lent to totals and to writing afresh, is no answer: where it is short that is 9 at place 1. A refusal that
--- is judged before it is used leaves it as it was; else its front, as long as the need, is zeros.
+-- Working space, lent to totals and to writing afresh, is no answer: where it is short that is 9 at place 1. A refusal
+-- that is judged before it is used leaves it as it was; else its front, as long as the need, is zeros.
 use Prim.Native.Nat.{ℕ, _+_, _*_, min, _≤_, _<_}
 use mathlib.Core.Path.{_≡_}
 use mathlib.Core.Logic.{_⊎_}

@@ -7,8 +7,8 @@ use Rattle.ledger.specs.Plain.{accepted, denied}
 use Rattle.lumbrisse.specs.Numbers.{replied}
 use Rattle.lumbrisse.specs.Asked.{Asked, Told, ledger, content, string, reading, reply, token, answered, row, withCost}
 
--- a discarded reading is not evaluated; `includes` is no comment, and `optional` is a blank entry; no string starts with an escape, and no
--- two escapes touch, in rule 5, in string content, and where a narration would stand
+-- a discarded reading is not evaluated; `includes` is no comment, and `optional` is a blank entry; no string starts
+-- with an escape, and no two escapes touch, in rule 5, in string content, and where a narration would stand
 unfoldable pub wrongs : List (Asked × Told)
 wrongs =
     (ledger (bytes "2024-01-01 *\n A:B 1 X {2024-05-01,3/1.5 EUR}\n"), reading (accepted (withCost 45 (row 28 22 44 2 20240501 0 0 ∷ row 26 34 39 2 40 43 2000000 ∷ []))))

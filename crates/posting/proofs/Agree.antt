@@ -1,4 +1,5 @@
--- Locality of readers with strings, which may cross the cut at n: what an answer on the longer text says of the answer on the text that ends there.
+-- Locality of readers with strings, which may cross the cut at n: what an answer on the longer text says of the answer
+-- on the text that ends there.
 --     misses     a miss stays one
 --     refuses    of a refusal nothing is said
 --     reads      what ends before m is read the same

@@ -1,4 +1,5 @@
--- Postings with their metadata, and the lines after a transaction's head, each answer from what the code knows where it gives it.
+-- Postings with their metadata, and the lines after a transaction's head, each answer from what the code knows where it
+-- gives it.
 use Prim.Native.Nat.{ℕ, suc, _+_, _≤_}
 use native.Mathlib.Omega.{arith}
 use mathlib.Core.Path.{_≡_, refl, ap, subst}

@@ -148,7 +148,8 @@ fn date_first(s: &[u8], at: usize, a: One) -> Lot
     }
 }
 
-// Rule 13, inside the braces: the first of five forms that reads. The amount at the front is read once for the forms that start with it.
+// Rule 13, inside the braces: the first of five forms that reads. The amount at the front is read once for the forms
+// that start with it.
 fn inside_at(s: &[u8], at: usize) -> Lot
     ensures { λ r. ⌜ r ≡ lotOf (inside (now (s .entry)) at) ⌝ }
 {

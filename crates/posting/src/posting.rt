@@ -1,4 +1,5 @@
-// Postings (rule 12), up to their line end. Where one misses, the rows that were written for it are covered by those that come next.
+// Postings (rule 12), up to their line end. Where one misses, the rows that were written for it are covered by those
+// that come next.
 use crate::cost;
 use amount::amounts;
 use amount::detail;

@@ -1,4 +1,5 @@
--- Recovering reading, block by block: its rows stand on their lines, and what the code has done when it has reached a place.
+-- Recovering reading, block by block: its rows stand on their lines, and what the code has done when it has reached a
+-- place.
 use Prim.Native.Nat.{ℕ, zero, suc, _+_, _-_, _≤_, _<_}
 use native.Mathlib.Omega.{arith}
 use mathlib.Core.Path.{_≡_, refl, sym, _∙_, ap, subst}

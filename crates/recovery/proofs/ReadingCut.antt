@@ -1,5 +1,5 @@
--- Plain reading of a text that it accepts, cut at a boundary that none of its strings holds: both parts are accepted, and the rows are those of the first and, moved,
--- those of the second.
+-- Plain reading of a text that it accepts, cut at a boundary that none of its strings holds: both parts are accepted,
+-- and the rows are those of the first and, moved, those of the second.
 use Prim.Native.Nat.{ℕ, zero, suc, _+_, _-_, _<_, _≤_}
 use native.Mathlib.Nat.{add-zero, zero-add, add-comm}
 use native.Mathlib.Omega.{arith}

@@ -1,13 +1,13 @@
 -- Demand 3. Take a tail that starts a line with a digit or small letter, that plain reading accepts, and none of whose
--- strings, as document 01 counts them, holds a line starting so. Put any bytes before it, none or ending in a line feed.
--- With the size limit kept and room for all rows, recovering reading gives for the tail plain reading's rows, moved by the
--- length and line feeds before it. A refused block gives one refusal row.
+-- strings, as document 01 counts them, holds a line starting so. Put any bytes before it, none or ending in a line
+-- feed. With the size limit kept and room for all rows, recovering reading gives for the tail plain reading's rows,
+-- moved by the length and line feeds before it. A refused block gives one refusal row.
 --
 -- It is said of both profiles, K: strict reading of a tail, and strict recovering reading, as plain reading and
 -- recovering reading.
 --
--- The reading rules enter by three names alone: `readingBy`, plain or strict reading; `recoveredBy`, recovering reading;
--- `strings`, demand 3's strings.
+-- The reading rules enter by three names alone: `readingBy`, plain or strict reading; `recoveredBy`, recovering
+-- reading; `strings`, demand 3's strings.
 use Prim.Native.Nat.{ℕ, _+_, _*_, _≤_}
 use Prim.Native.Char.{code}
 use mathlib.Core.Path.{_≡_}

@@ -1,4 +1,5 @@
--- Demand 3 on closed prefixes and tails, as one list under one statement, by computation: it is not empty, and each of its premises is needed.
+-- Demand 3 on closed prefixes and tails, as one list under one statement, by computation: it is not empty, and each of
+-- its premises is needed.
 use Prim.Native.Nat.{ℕ}
 use mathlib.Core.Path.{_≡_, refl}
 use mathlib.Core.Bool.{Bool, true, false, _&&_, not}
@@ -18,11 +19,13 @@ use Rattle.recovery.specs.Demand3.{startsTail, endsLine, thenTail}
 abbrev row : ℕ → ℕ → ℕ → ℕ → ℕ → ℕ → ℤ → Row
 row k a e l p q v = rowOf k a e l p q v
 
--- the bytes before a tail; the tail; its plain rows; recovering reading's rows of the bytes before it alone; those of both
+-- the bytes before a tail; the tail; its plain rows; recovering reading's rows of the bytes before it alone; those of
+-- both
 abbrev Case : Type 0
 Case = List ℕ × List ℕ × List Row × List Row × List Row
 
--- the premises (the tail's first byte, the end of what stands before it, the tail's strings), and then whether the rows are those that demand 3 promises
+-- the premises (the tail's first byte, the end of what stands before it, the tail's strings), and then whether the rows
+-- are those that demand 3 promises
 abbrev Verdict : Type 0
 Verdict = Bool × Bool × Bool × Bool
 
@@ -42,7 +45,8 @@ noneHold (x ∷ xs) = not (holds x) && noneHold xs
 
 -- ---- demand 3 holds, and is seen
 
--- an open quote before a month of readings; arbitrary bytes; a comment before a ledger of several blocks, and nothing before it; narrations that hold line feeds; places in p and q
+-- an open quote before a month of readings; arbitrary bytes; a comment before a ledger of several blocks, and nothing
+-- before it; narrations that hold line feeds; places in p and q
 abbrev promised : List Case
 promised =
     (bytes "2024-01-31 * \"Jan\n  E:Cell  12.5 KWH\n", bytes "2024-02-01 * \"Feb\"\n  E:Cell  10 KWH\n2024-02-15 * \"Feb\"\n  E:Cell  11.5 KWH\n2024-02-29 balance E:Cell  34 KWH\n", (row 6 0 36 1 20240201 4 (pos 0) ∷ row 20 11 12 1 0 0 (pos 0) ∷ row 22 14 17 1 0 0 (pos 0) ∷ row 33 21 27 2 0 0 (pos 0) ∷ row 26 29 31 2 32 35 (pos 10000000) ∷ row 6 36 74 3 20240215 4 (pos 0) ∷ row 20 47 48 3 0 0 (pos 0) ∷ row 22 50 53 3 0 0 (pos 0) ∷ row 33 57 63 4 0 0 (pos 0) ∷ row 26 65 69 4 70 73 (pos 11500000) ∷ row 8 74 108 5 20240229 2 (pos 0) ∷ row 25 93 99 5 0 0 (pos 0) ∷ row 26 101 103 5 104 107 (pos 34000000) ∷ []), (row 90 0 37 1 4 0 (pos 0) ∷ []), (row 90 0 37 1 4 0 (pos 0) ∷ row 6 37 73 3 20240201 4 (pos 0) ∷ row 20 48 49 3 0 0 (pos 0) ∷ row 22 51 54 3 0 0 (pos 0) ∷ row 33 58 64 4 0 0 (pos 0) ∷ row 26 66 68 4 69 72 (pos 10000000) ∷ row 6 73 111 5 20240215 4 (pos 0) ∷ row 20 84 85 5 0 0 (pos 0) ∷ row 22 87 90 5 0 0 (pos 0) ∷ row 33 94 100 6 0 0 (pos 0) ∷ row 26 102 106 6 107 110 (pos 11500000) ∷ row 8 111 145 7 20240229 2 (pos 0) ∷ row 25 130 136 7 0 0 (pos 0) ∷ row 26 138 140 7 141 144 (pos 34000000) ∷ []))

@@ -1,5 +1,6 @@
--- M-110: what a box that prints statements unseen may rely on. Where strict recovering reading refuses no block, every line of the ledger that starts with a
--- digit starts a directive: no dated line is taken for a comment, and none stands inside a string.
+-- M-110: what a box that prints statements unseen may rely on. Where strict recovering reading refuses no block, every
+-- line of the ledger that starts with a digit starts a directive: no dated line is taken for a comment, and none stands
+-- inside a string.
 use Prim.Native.Nat.{ℕ, _-_, _≤_}
 use mathlib.Core.Path.{_≡_}
 use mathlib.Core.Bool.{true}

@@ -1,4 +1,5 @@
--- Recovering reading, in a profile: the ledger is cut before each boundary, and each block is read as a part of its own.
+-- Recovering reading, in a profile: the ledger is cut before each boundary, and each block is read as a part of its
+-- own.
 use Prim.Native.Nat.{ℕ, zero, suc, _+_}
 use mathlib.Core.Bool.{cond}
 use mathlib.Core.List.{List, [], _∷_, _++_}
@@ -20,8 +21,8 @@ unfoldable pub blockLength : List ℕ → ℕ
 blockLength [] = 0
 blockLength (b ∷ s) = suc (cond (cuts b (getD s 0 0)) 0 (blockLength s))
 
--- the rows of a block of n bytes at place a, with l line feeds before it: its own, moved; or, where it is refused, one row of kind 90, which names its
--- span and line, the refusal's number and its place in the ledger
+-- the rows of a block of n bytes at place a, with l line feeds before it: its own, moved; or, where it is refused, one
+-- row of kind 90, which names its span and line, the refusal's number and its place in the ledger
 unfoldable pub blockRows : ℕ → ℕ → ℕ → Reading → List Row
 blockRows a l n (accepted rs) = moved a l rs
 blockRows a l n (denied k p) = rowOf refusalKind a (a + n) (l + 1) k (a + p) (pos 0) ∷ []

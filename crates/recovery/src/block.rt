@@ -41,8 +41,8 @@ pub fn block_length(s: &[u8]) -> usize
     i
 }
 
-// Reads the block s, which starts at place `base`; its rows, or the row of its refusal, go to the table's front, where they all fit, with no lines
-// yet. What stands behind them in the table may change too.
+// Reads the block s, which starts at place `base`; its rows, or the row of its refusal, go to the table's front, where
+// they all fit, with no lines yet. What stands behind them in the table may change too.
 pub fn block(s: &[u8], base: usize, table: &mut [u8], profile: Profile) -> usize
     requires { ⌜ base + length (now s) ≤ sizeLimit ⌝ }
     ensures answer { λ r. ⌜ r ≡ length (unlinedBlock profile base (now (s .entry))) ⌝ }

@@ -15,7 +15,8 @@ ghost use Rattle.recovery.specs.Recovering.{recoveredBy, recovered, reco
 ghost use Rattle.recovery.specs.steps.Front.{unlined, Front};
 ghost use Rattle.row.specs.Row.{room};
 
-// Block by block: so many rows, which go to the table's front, where they all fit, with no lines yet. What stands behind them may change too.
+// Block by block: so many rows, which go to the table's front, where they all fit, with no lines yet. What stands
+// behind them may change too.
 fn blocks(s: &[u8], table: &mut [u8], profile: Profile) -> usize
     requires { ⌜ length (now s) ≤ sizeLimit ⌝ }
     ensures answer { λ r. ⌜ r ≡ length (unlined profile (now (s .entry))) ⌝ }

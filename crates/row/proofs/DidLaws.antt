@@ -1,4 +1,5 @@
--- Laws by which code that writes rows follows the joins of readers. The code's answers are r and q, and u and v the tables after them.
+-- Laws by which code that writes rows follows the joins of readers. The code's answers are r and q, and u and v the
+-- tables after them.
 use Prim.Native.Nat.{ℕ, _+_}
 use native.Mathlib.Omega.{arith}
 use mathlib.Core.Path.{_≡_, refl, _∙_, ap}

@@ -26,7 +26,8 @@ pub record Stepping (n : ℕ) (f : ℕ → Rows) : Type 0 where
   pub fits : (i : ℕ) → i ≤ n → Fits text i (f i)
   pub ends : f n ≡ Miss
 
--- the loop's invariant at place i, where o is held and t is the table: whatever finishes the rest finishes what is asked
+-- the loop's invariant at place i, where o is held and t is the table: whatever finishes the rest finishes what is
+-- asked
 pub record Turns (base n : ℕ) (f : ℕ → Rows) (a₀ : Rows) (o₀ : Out) (t₀ : List ℕ) (d i : ℕ) (o : Out) (t : List ℕ) : Type 0 where
   pub lead : (u : List ℕ) (r : Ran) → Did base (many f d i) o t u r → Did base a₀ o₀ t₀ u r
   pub inside : i ≤ n

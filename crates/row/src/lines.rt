@@ -16,7 +16,8 @@ ghost use Rattle.text.specs.Run.{runTo};
 ghost use Rattle.row.specs.Row.{feeds};
 ghost use Rattle.row.specs.steps.Sweep.{LineOf, linesSet};
 
-// The line in which the last row started: where it starts, where its line feed or the end of the text stands, and its number.
+// The line in which the last row started: where it starts, where its line feed or the end of the text stands, and its
+// number.
 struct Line {
     from: usize,
     stop: usize,

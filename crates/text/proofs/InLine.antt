@@ -1,5 +1,5 @@
--- Words and classes of bytes without a line feed, which stay inside a line. And the boundary: the first byte after a text
--- that ends in one.
+-- Words and classes of bytes without a line feed, which stay inside a line. And the boundary: the first byte after a
+-- text that ends in one.
 use Prim.Native.Nat.{ℕ, _<_}
 use native.Mathlib.Omega.{arith}
 use mathlib.Core.Path.{_≡_, refl}

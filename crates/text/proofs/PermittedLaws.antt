@@ -33,8 +33,8 @@ module _ (b n : ℕ) where
   unfolding permitted
   barred h e f g = rw (lt-leb 32 b h, ne-eqb _ _ f, ne-eqb _ _ e, ne-eqb _ _ g)
 
--- The loop over the bytes before `to`: those before i may stand, and those that may in what is left make up the answer a; r is what the
--- code's test gave of the byte at i.
+-- The loop over the bytes before `to`: those before i may stand, and those that may in what is left make up the answer
+-- a; r is what the code's test gave of the byte at i.
 module _ (a : ℕ) (s : List ℕ) (i to : ℕ) (v : i + clean (drop i s) ≡ a) (h : i < to) (l : to ≤ length s) where
   pub clean-on : (r : Bool) → r ≡ permitted (getD s i 0) (getD s (i + 1) 0) → r ≡ true → i + 1 + clean (drop (i + 1) s) ≡ a
   unfolding clean

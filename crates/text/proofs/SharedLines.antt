@@ -229,7 +229,8 @@ module _ {Q : Type 0} {s z : List ℕ} {K P : ℕ → ℕ → Type 0} (L : Share
 
   -- ---- words and dates
 
-  -- a comparison with bytes that hold no line feed; where they stand, each of them and the place behind them stands in the line
+  -- a comparison with bytes that hold no line feed; where they stand, each of them and the place behind them stands in
+  -- the line
   module _ (m : List ℕ → List ℕ → Bool) (C : Compares m) where
     compared : (w : List ℕ) → hasLF w ≡ false → (i j : ℕ) → K i j → m w (drop j z) ≡ m w (drop i s)
     unfolding hasLF

@@ -34,7 +34,8 @@ such-within p s i b o e h = elim (decLt i (length s)) [ yes l ↦ l | no l ↦ a
 -- for a definition that goes by tests, under `unfolding` it: each test has the value that the code found
 pub ruleset by-tests = (eq-eqb, ne-eqb, lt-ltb, le-ltb, le-leb, lt-leb, getD-past)
 
--- induction from the end of a text backwards: what holds past the end, and at i where it holds at i + 1, holds everywhere
+-- induction from the end of a text backwards: what holds past the end, and at i where it holds at i + 1, holds
+-- everywhere
 pub back : (n : ℕ) (P : ℕ → Type 0) → ((i : ℕ) → n ≤ i → P i) → ((i : ℕ) → i < n → P (i + 1) → P i) → (i : ℕ) → P i
 back n P end step i = go n i (omega arith)
   where
@@ -56,7 +57,8 @@ module _ (p : ℕ → Bool) (s : List ℕ) (i : ℕ) where
   unfolding runTo runFrom
   run-ends h = rw (drop-of-length-le s h)
 
--- by them, induction on a run that ends at e: what holds of an empty run, and of a run that is longer by the byte before it
+-- by them, induction on a run that ends at e: what holds of an empty run, and of a run that is longer by the byte
+-- before it
 module _ (p : ℕ → Bool) (s : List ℕ) where
   pub run-ind : (P : ℕ → ℕ → Type 0) → ((i : ℕ) → length s ≤ i → P i i) → ((i : ℕ) → i < length s → p (getD s i 0) ≡ false → P i i) → ((i e : ℕ) → i < length s → p (getD s i 0) ≡ true → P (i + 1) e → P i e) → (i e : ℕ) → e ≡ runTo p s i → P i e
   run-ind P past out on i e f =

@@ -17,8 +17,8 @@ use Rattle.text.proofs.Steps.{drop-step}
 pub str-start : (s : List ℕ) (at : ℕ) → strFrom false (drop at s) at ≡ strFrom (ltb at at) (drop at s) at
 str-start s at = rw (le-ltb at at (omega arith))
 
--- The invariant is that the answer a is what is left to read at i, where the last escape, or the opening quote, ended at `start`: so an
--- ordinary byte stands before i if that is behind it.
+-- The invariant is that the answer a is what is left to read at i, where the last escape, or the opening quote, ended
+-- at `start`: so an ordinary byte stands before i if that is behind it.
 module _ (a : Read) (s : List ℕ) (start i : ℕ) (v : a ≡ strFrom (ltb start i) (drop i s) i) where
   quote : i < length s → getD s i 0 ≡ 34 → To (i + 1) ≡ a
   unfolding strFrom isOrdinary

@@ -1,6 +1,6 @@
 -- A text that ends in a line feed, and that text with more behind it, which starts with a boundary's byte: they share
--- every line of the first. Below n, its length, a place stands inside a line; at n itself only what reads a line from its
--- start is asked.
+-- every line of the first. Below n, its length, a place stands inside a line; at n itself only what reads a line from
+-- its start is asked.
 use Prim.Native.Nat.{ℕ, suc, _+_, _<_}
 use native.Mathlib.Omega.{arith}
 use native.Mathlib.Decide.{decLt}

@@ -1,4 +1,5 @@
--- Longest runs in windows: what the first stop in a window says of a run, and the classes by the tests that windows make.
+-- Longest runs in windows: what the first stop in a window says of a run, and the classes by the tests that windows
+-- make.
 use Prim.Native.Nat.{ℕ, zero, suc, _+_, _-_, _≤_, _<_, min}
 use native.Mathlib.Decide.{decLt}
 use native.Mathlib.Nat.{add-zero}

@@ -1,5 +1,5 @@
--- Rule 6. Account: two or more parts joined by `:`; a part starts with a capital or digit, then letters, digits, `-`. After a first part,
--- missing the second is hard.
+-- Rule 6. Account: two or more parts joined by `:`; a part starts with a capital or digit, then letters, digits, `-`.
+-- After a first part, missing the second is hard.
 use Prim.Native.Nat.{ℕ, suc, _+_}
 use Prim.Native.Char.{code}
 use mathlib.Core.Bool.{cond}

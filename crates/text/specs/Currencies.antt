@@ -1,4 +1,5 @@
--- Rule 7. Currency: a capital, then the longest run of capitals, digits, `-`, `_`, `.`, `'`, whose last byte must be a capital or digit.
+-- Rule 7. Currency: a capital, then the longest run of capitals, digits, `-`, `_`, `.`, `'`, whose last byte must be a
+-- capital or digit.
 use Prim.Native.Nat.{ℕ, _+_, _-_}
 use mathlib.Core.Bool.{cond}
 use mathlib.Core.List.{List}

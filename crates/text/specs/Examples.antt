@@ -1,4 +1,5 @@
--- The definitions tried on closed inputs: what each token reads at the start of a text, as one list under one statement, by computation.
+-- The definitions tried on closed inputs: what each token reads at the start of a text, as one list under one
+-- statement, by computation.
 use Prim.Native.Nat.{ℕ, _+_}
 use Prim.Native.String.{String}
 use mathlib.Core.Path.{_≡_, refl}

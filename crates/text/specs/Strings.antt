@@ -1,5 +1,5 @@
--- Rule 5. String: `"`, content, `"`. Ordinary: any byte, LF too, but `"` and `\`. The escapes are `\"` and `\\`, and each needs an
--- ordinary byte directly before it; any other backslash is a miss.
+-- Rule 5. String: `"`, content, `"`. Ordinary: any byte, LF too, but `"` and `\`. The escapes are `\"` and `\\`, and
+-- each needs an ordinary byte directly before it; any other backslash is a miss.
 use Prim.Native.Nat.{ℕ, _+_}
 use Prim.Native.Char.{code}
 use mathlib.Core.Bool.{Bool, true, false, cond}
@@ -10,8 +10,9 @@ use Rattle.text.specs.Bytes.{isOrdinary, isEscaped}
 use Rattle.text.specs.declared.Read.{Read}
 use Rattle.text.specs.declared.Read.the-variants.{To, Miss}
 
--- In a text that starts at place i: the content that is left and the closing quote. An ordinary byte goes on, `"` closes,
--- a backslash needs an ordinary byte directly before it (`ordinary`: one stands there). escFrom: after that backslash.
+-- In a text that starts at place i: the content that is left and the closing quote. An ordinary byte goes on, `"`
+-- closes, a backslash needs an ordinary byte directly before it (`ordinary`: one stands there). escFrom: after that
+-- backslash.
 unfoldable mutual
   pub strFrom : Bool → List ℕ → ℕ → Read
   strFrom ordinary [] i = Miss

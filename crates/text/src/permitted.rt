@@ -70,8 +70,8 @@ fn clean_to(s: &[u8], from: usize, to: usize) -> usize
     i
 }
 
-// How many bytes stand before the first that a ledger may not hold: all of them where there is none. A chunk that is not
-// plain, since it holds a carriage return or a byte that may not stand, is looked at byte by byte.
+// How many bytes stand before the first that a ledger may not hold: all of them where there is none. A chunk that is
+// not plain, since it holds a carriage return or a byte that may not stand, is looked at byte by byte.
 pub fn clean_prefix(s: &[u8]) -> usize
     ensures { λ r. ⌜ r ≡ clean (now (s .entry)) ⌝ }
     ensures { λ r. ⌜ r ≤ length (now (s .entry)) ⌝ }

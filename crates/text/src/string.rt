@@ -7,8 +7,9 @@ ghost use Prim.Native.Nat.{_<_};
 ghost use lib.ListN.{length, drop};
 ghost use Rattle.text.specs.Strings.{strFrom, stringAt};
 
-// The rest of a string, from after its opening quote: an escape needs an ordinary byte before it, so it stands neither there nor where the
-// last escape ended. The text's last byte, behind which no escaped one comes, is looked at by itself.
+// The rest of a string, from after its opening quote: an escape needs an ordinary byte before it, so it stands neither
+// there nor where the last escape ended. The text's last byte, behind which no escaped one comes, is looked at by
+// itself.
 fn string_rest(s: &[u8], at: usize) -> Read
     requires { ⌜ 0 < length (now s) ⌝ }
     ensures { λ r. ⌜ r ≡ strFrom false (drop at (now (s .entry))) at ⌝ }

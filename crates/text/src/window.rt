@@ -1,5 +1,5 @@
-// Longest runs of the classes with more kinds of bytes (rules 7, 14 and 16), a window of bytes at a time. The loop over a window has no way
-// out, so that the compiler tests many bytes at once.
+// Longest runs of the classes with more kinds of bytes (rules 7, 14 and 16), a window of bytes at a time. The loop over
+// a window has no way out, so that the compiler tests many bytes at once.
 use crate::bytes;
 ghost use mathlib.Core.Path.{_≡_};
 ghost use mathlib.Core.Bool.{cond};
@@ -14,7 +14,8 @@ const WINDOW: usize = 32;
 
 const NONE: u8 = 32;
 
-// A function of its own, apart from the next: only so does the compiler see a minimum over the window, for which it needs no branch.
+// A function of its own, apart from the next: only so does the compiler see a minimum over the window, for which it
+// needs no branch.
 pub fn lesser(a: u8, b: u8) -> u8
     ensures { λ r. ⌜ r ≡ min a b ⌝ }
 {

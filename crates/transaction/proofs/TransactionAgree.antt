@@ -1,5 +1,6 @@
--- Locality of rule 11: what follows a text that ends in a line feed does not count, if it starts with a boundary's byte, but for strings, which may cross the
--- cut. M is the text's length: below it a place stands inside a line; a transaction's opening may be the last line feed.
+-- Locality of rule 11: what follows a text that ends in a line feed does not count, if it starts with a boundary's
+-- byte, but for strings, which may cross the cut. M is the text's length: below it a place stands inside a line; a
+-- transaction's opening may be the last line feed.
 use Prim.Native.Nat.{ℕ, suc, _+_, _-_, _≤_, _<_}
 use native.Mathlib.Omega.{arith}
 use mathlib.Core.Path.{_≡_, refl}

@@ -9,7 +9,8 @@ use Rattle.text.specs.Bytes.{isOrdinary, isEscaped}
 use Rattle.access.specs.Contents.{valid, unescaped}
 use Rattle.access.specs.declared.content.Measured.{Measured}
 
--- how many bytes stand for the next byte of a string, by whether an ordinary byte stands before it, its first byte and the one after
+-- how many bytes stand for the next byte of a string, by whether an ordinary byte stands before it, its first byte and
+-- the one after
 unfoldable pub taken : Bool → ℕ → ℕ → ℕ
 taken ordinary b next = cond (isOrdinary b) 1 (cond (ordinary && (eqb b (code "\\") && isEscaped next)) 2 0)
 

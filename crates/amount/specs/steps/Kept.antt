@@ -1,4 +1,5 @@
--- What the code keeps of the digits of a literal. The literal's own meaning is `literalAs`: a law shows that what is kept comes to it.
+-- What the code keeps of the digits of a literal. The literal's own meaning is `literalAs`: a law shows that what is
+-- kept comes to it.
 use Prim.Native.Nat.{ℕ, _+_, _-_, _*_, _^_}
 use Prim.Native.Char.{code}
 use mathlib.Core.Bool.{Bool, true, false, cond, _&&_, _||_, not}

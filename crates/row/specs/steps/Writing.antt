@@ -44,11 +44,13 @@ unfoldable pub outs : Out → List Detail → Out
 outs o [] = o
 outs o (d ∷ ds) = outs (noted o d) ds
 
--- u is the table t after the rows were written from row n on, and maybe others behind them: of a reading that was dropped, or is to be covered
+-- u is the table t after the rows were written from row n on, and maybe others behind them: of a reading that was
+-- dropped, or is to be covered
 abbrev pub Poured : ℕ → List Row → List ℕ → List ℕ → Type 0
 Poured n rs t u = (xs : List Row) × (u ≡ pourAt n (rs ++ xs) t)
 
--- what was done for the answer a of a rule, where o was held and t was the table: u is the table now, r the code's answer
+-- what was done for the answer a of a rule, where o was held and t was the table: u is the table now, r the code's
+-- answer
 abbrev pub Did : ℕ → Rows → Out → List ℕ → List ℕ → Ran → Type 0
 Did base (To e ds) o t u r = (r ≡ Ran.To e (outs o ds)) × Poured (o .rows) (map (laid base) ds) t u
 Did base Miss o t u r = (r ≡ Ran.Miss) × Poured (o .rows) [] t u
