@@ -32,7 +32,7 @@ none-behind x y l us vs rs e w =
     rw (strings-moved (x ++ y) (length x) l vs, drop-append-seam x y) at (none-second (x ++ y) us (moved (length x) l vs) (rw e at w))
 
 module _ (K : Profile) where
-  -- ---- recovering reading of a text that plain reading accepts, none of whose strings holds a boundary, gives its plain rows
+  -- ---- recovering reading gives the plain rows of an accepted text none of whose strings holds a boundary
 
   two-parts : (f a l : ℕ) (s : List ℕ) (us vs rs : List Row) → 0 < length s → partBy K (take (blockLength s) s) ≡ accepted us
       → recoverBy K f (a + blockLength s) (l + feeds (take (blockLength s) s)) (drop (blockLength s) s) ≡ moved (a + blockLength s) (l + feeds (take (blockLength s) s)) vs

@@ -65,7 +65,8 @@ pub record Gives (K : Profile) (p t : List ℕ) (ts : List Row) : Type 0 where
 abbrev pub Demand3 : Profile → Type 0
 Demand3 K = (p t : List ℕ) (ts : List Row) → Given K p t ts → Gives K p t ts
 
--- ---- as a call sees it: on a table with room for the rows rs it answers their number, and the table has their bytes, and past them what it had
+-- ---- as a call sees it: on a table with room for the rows rs it answers their number, and the table has their bytes,
+-- and past them what it had
 
 pub record Writes (K : Profile) (ledger table : List ℕ) (rs : List Row) : Type 0 where
   pub answers : answer (recoveredBy K ledger) (room table) ≡ Answer.Rows (length rs)
