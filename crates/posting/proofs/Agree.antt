@@ -3,7 +3,7 @@
 --     misses     a miss stays one
 --     refuses    of a refusal nothing is said
 --     reads      what ends before m is read the same
---     crosses    what else is read ends past n, and a string of its rows crosses n; the other is a miss, where t is true
+--     crosses    what else is read ends past n, and a string of its rows crosses n; the other misses, where t is true
 use Prim.Native.Nat.{ℕ, zero, suc, _+_, _≤_, _<_}
 use native.Mathlib.Omega.{arith}
 use mathlib.Core.Path.{_≡_, refl, _∙_, ap}
