@@ -11,7 +11,7 @@ use lib.ListN.{length}
 use Rattle.text.specs.Permitted.{clean}
 use Rattle.ledger.specs.Plain.{denied, readFrom, partAt, part}
 use Rattle.ledger.specs.steps.Scan.{movedReading, scanned, scannedBy, partAtBy, scanAnswer, ScanPoured}
-use Rattle.ledger.specs.Strict.{judged}
+use Rattle.ledger.specs.Strict.{strictly}
 use Rattle.ledger.specs.declared.scan.Scan.{Scan}
 use Rattle.ledger.specs.declared.scan.Profile.{Profile}
 use Rattle.ledger.specs.declared.scan.Profile.the-variants.{Plain, Strict}
@@ -33,7 +33,7 @@ part-scanned a s h = rw (le-ltb (clean s) (length s) h)
 -- the same in a profile
 pub part-by-scanned : (k : Profile) (a : ℕ) (s : List ℕ) → length s ≤ clean s → partAtBy k a s ≡ scannedBy k a s
 part-by-scanned Plain a s h = part-scanned a s h
-part-by-scanned Strict a s h = ap (λ x. movedReading a 0 (judged s x)) (part-scanned 0 s h)
+part-by-scanned Strict a s h = ap (λ x. movedReading a 0 (strictly s x)) (part-scanned 0 s h)
 
 -- ---- what the code answers: c is the place of the first byte that may not stand
 
@@ -44,9 +44,9 @@ module _ (k : Profile) (a : ℕ) (s : List ℕ) (c : ℕ) (e : c ≡ clean s) wh
     bytes-denied b = rw (← e, lt-ltb c (length s) h)
 
     part-denied : (k : Profile) → partAtBy k a s ≡ denied 2 (a + c)
-    unfolding judged
+    unfolding strictly
     part-denied Plain = bytes-denied a
-    part-denied Strict = ap (λ x. movedReading a 0 (judged s x)) (bytes-denied 0) ∙ ap (λ z. denied 2 (a + z)) (zero-add c)
+    part-denied Strict = ap (λ x. movedReading a 0 (strictly s x)) (bytes-denied 0) ∙ ap (λ z. denied 2 (a + z)) (zero-add c)
 
     pub part-byte : Scan.Stopped 2 (a + c) ≡ scanAnswer (partAtBy k a s)
     unfolding scanAnswer

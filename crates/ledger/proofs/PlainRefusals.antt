@@ -21,7 +21,7 @@ use Rattle.entry.proofs.EntryForms.{entry-sound}
 use Rattle.entry.proofs.EntryLines.{OnLine}
 use Rattle.entry.proofs.EntryPlaces.{entryNumbers, entry-number, entry-place}
 use Rattle.ledger.specs.Plain.{moved, Reading, accepted, denied, after, readFrom, partAt, part, plain}
-use Rattle.ledger.specs.Strict.{lostLineNumber, flagNumber, judged, strict}
+use Rattle.ledger.specs.Strict.{lostLineNumber, flagNumber, strictly, strict}
 use Rattle.ledger.specs.Strictness.{Refused}
 use Rattle.ledger.proofs.PlainLaws.{read-got, read-refuse, part-kept}
 use Rattle.ledger.proofs.StrictProved.{plain-first, plain-part, strict-exactly}
@@ -90,7 +90,7 @@ abbrev pub strictNumbers : List ℕ
 strictNumbers = plainNumbers ++ judgedNumbers
 
 pub strict-refusal : (s : List ℕ) (n p : ℕ) → strict s ≡ denied n p → Refusal strictNumbers (length s) n p
-unfolding judged
+unfolding strictly
 strict-refusal s n p e = go (plain s) refl
   where
     numbered : (n ≡ lostLineNumber) ⊎ (n ≡ flagNumber) → OneOf judgedNumbers n

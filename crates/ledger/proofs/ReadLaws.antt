@@ -15,7 +15,7 @@ use Rattle.row.specs.declared.table.Row.{Row}
 use Rattle.row.specs.Row.{rowsBytes, room, width}
 use Rattle.row.specs.steps.Pouring.{pour}
 use Rattle.row.specs.Details.{spanned}
-use Rattle.ledger.specs.Strict.{objection, firstRefused, judged, readingBy}
+use Rattle.ledger.specs.Strict.{objection, firstRefused, strictly, readingBy}
 use Rattle.row.specs.steps.Writing.{Poured}
 use Rattle.row.specs.steps.Sweep.{linesSet}
 use Rattle.row.proofs.PourLaws.{pour-all, pour-append, pourAt-full, pourAt-zero, length-pour}
@@ -54,8 +54,8 @@ bad-rows s (r ∷ rs) w xs e = go (eqb (objection s r) 0) e (λ f. bad-rows s rs
     go true e ih = ih e
     go false e ih = absurd (let z : _≡_ {A = ℕ} 0 1 = cc in omega arith)
 
-pub judged-rows : (s : List ℕ) (x : Reading) (rs : List Row) → judged s x ≡ accepted rs → x ≡ accepted rs
-unfolding judged
+pub judged-rows : (s : List ℕ) (x : Reading) (rs : List Row) → strictly s x ≡ accepted rs → x ≡ accepted rs
+unfolding strictly
 judged-rows s (accepted xs) rs e = bad-rows s xs (accepted xs) rs e
 judged-rows s (denied n p) rs e = e
 
@@ -169,9 +169,9 @@ module _ (k : Profile) (s : List ℕ) (i p : ℕ) (e : readingBy k s ≡ denied 
 
 -- a refusal of plain reading stays
 stays-denied : (k : Profile) (s : List ℕ) (i p : ℕ) → plain s ≡ denied i p → readingBy k s ≡ denied i p
-unfolding judged
+unfolding strictly
 stays-denied Plain s i p e = e
-stays-denied Strict s i p e = ap (judged s) e
+stays-denied Strict s i p e = ap (strictly s) e
 
 -- ---- the verdict: of a ledger that is too large, and of one that is read
 
@@ -182,7 +182,7 @@ verdict-large k s h = rw (stays-denied k s 1 0 (rw (lt-leb (length s) sizeLimit 
 pub verdict-part : (k : Profile) (s : List ℕ) (m : Scan) → length s ≤ sizeLimit → m ≡ scanAnswer (partAtBy k 0 s) → m ≡ scanAnswer (readingBy k s)
 unfolding plain
 verdict-part Plain s m l q = rw (le-leb (length s) sizeLimit l) q
-verdict-part Strict s m l q = rw (le-leb (length s) sizeLimit l) (q ∙ ap scanAnswer (moved-none (judged s (part s))))
+verdict-part Strict s m l q = rw (le-leb (length s) sizeLimit l) (q ∙ ap scanAnswer (moved-none (strictly s (part s))))
 
 pub ruleset verdict-laws = (verdict-large, verdict-part)
 

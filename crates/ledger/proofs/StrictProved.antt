@@ -11,7 +11,7 @@ use lib.ListN.{length}
 use Rattle.text.specs.Permitted.{sizeLimit}
 use Rattle.row.specs.declared.table.Row.{Row}
 use Rattle.ledger.specs.Plain.{Reading, accepted, denied, part, plain}
-use Rattle.ledger.specs.Strict.{lostLine, otherFlag, objection, firstRefused, judged}
+use Rattle.ledger.specs.Strict.{lostLine, otherFlag, objection, firstRefused, strictly}
 use Rattle.ledger.specs.Strictness.{Passes, Later, Refused, StrictRows, PlainFirst, StrictExactly, InOrder}
 use Rattle.ledger.proofs.RowOrder.{Rises}
 use Rattle.ledger.proofs.PlainLaws.{part-kept}
@@ -22,8 +22,8 @@ pub strict-rows : StrictRows
 strict-rows s rs e = judged-rows s (plain s) rs e
 
 pub plain-first : PlainFirst
-unfolding judged
-plain-first s n p e = ap (judged s) e
+unfolding strictly
+plain-first s n p e = ap (strictly s) e
 
 -- ---- the first row that is refused
 
@@ -70,14 +70,14 @@ module _ (s : List ℕ) where
       go false false c d h = absurd (h refl)
 
 pub strict-exactly : StrictExactly
-unfolding judged
+unfolding strictly
 strict-exactly s rs e =
     record {
-      accepts = λ h. ap (judged s) e ∙ passes-all s rs (accepted rs) h;
-      accepted-passes = λ q. all-pass s rs (accepted rs) rs (sym (ap (judged s) e) ∙ q);
-      refuses = λ n p k. ap (judged s) e ∙ told n p k;
-      refused = λ n p q. was-refused s rs rs n p (sym (ap (judged s) e) ∙ q);
-      numbers = λ n p q. let k = was-refused s rs rs n p (sym (ap (judged s) e) ∙ q) in subst (λ z. (z ≡ 16) ⊎ (z ≡ 17)) (k .number) (objection-number s (k .row) (λ z. k .some (sym (k .number) ∙ z)));
+      accepts = λ h. ap (strictly s) e ∙ passes-all s rs (accepted rs) h;
+      accepted-passes = λ q. all-pass s rs (accepted rs) rs (sym (ap (strictly s) e) ∙ q);
+      refuses = λ n p k. ap (strictly s) e ∙ told n p k;
+      refused = λ n p q. was-refused s rs rs n p (sym (ap (strictly s) e) ∙ q);
+      numbers = λ n p q. let k = was-refused s rs rs n p (sym (ap (strictly s) e) ∙ q) in subst (λ z. (z ≡ 16) ⊎ (z ≡ 17)) (k .number) (objection-number s (k .row) (λ z. k .some (sym (k .number) ∙ z)));
     }
   where
     told : (n p : ℕ) → Refused s rs n p → firstRefused s rs (accepted rs) ≡ denied n p

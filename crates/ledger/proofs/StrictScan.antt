@@ -23,7 +23,7 @@ use Rattle.ledger.specs.declared.strict.Objection.{Objection}
 use Rattle.entry.specs.steps.Settled.{kindOf, entryAnswer}
 use Rattle.ledger.specs.steps.Objections.{entryReach, ledgerReach, objectionOf, flagPasses, lostOf, flagOf, entryObjection}
 use Rattle.ledger.specs.Plain.{moved, Reading, accepted, denied, after, readFrom}
-use Rattle.ledger.specs.Strict.{firstRefused, judged}
+use Rattle.ledger.specs.Strict.{firstRefused, strictly}
 use Rattle.ledger.specs.steps.Scan.{scanned, movedReading, scannedBy, firstOf, notedBy, endedScan, scanAnswer, ScanPoured}
 use Rattle.ledger.specs.declared.scan.Scan.{Scan}
 use Rattle.ledger.specs.declared.scan.Profile.{Profile}
@@ -186,11 +186,11 @@ module _ (a : ℕ) (s : List ℕ) where
 
   -- a refusal of plain reading stays
   pub denied-by : (k : Profile) (n p : ℕ) → scanned a s ≡ denied n p → scannedBy k a s ≡ denied n p
-  unfolding judged
+  unfolding strictly
   denied-by Plain n p e = e
   denied-by Strict n p e = go (scanned 0 s) refl (sym scan-moved ∙ e)
     where
-      go : (x : Reading) → scanned 0 s ≡ x → movedReading a 0 x ≡ denied n p → movedReading a 0 (judged s x) ≡ denied n p
+      go : (x : Reading) → scanned 0 s ≡ x → movedReading a 0 x ≡ denied n p → movedReading a 0 (strictly s x) ≡ denied n p
       go (accepted rs) f q = absurd (let z : _≡_ {A = ℕ} 0 1 = cc in omega arith)
       go (denied j i) f q = q
 
@@ -201,11 +201,11 @@ module _ (a : ℕ) (s u : List ℕ) (at n : ℕ) (t : List ℕ) (g : Reached a s
       H .rest ∙ ap (after (H .rows)) e ∙ ap accepted (append-nil (H .rows))
 
   ended-is : (k : Profile) → Judged k s at o → scannedBy k a s ≡ cond (eqb (o .number) 0) (accepted (g .rows)) (denied (o .number) (a + o .place))
-  unfolding judged
+  unfolding strictly
   ended-is Plain j = rw j (scan-accepted a s u at n t g h)
   ended-is Strict H =
       let e : accepted (g .rows) ≡ accepted (moved a 0 (H .rows)) = sym (scan-accepted a s u at n t g h) ∙ scan-moved a s ∙ ap (movedReading a 0) (heard-all H) in
-      ap (λ x. movedReading a 0 (judged s x)) (heard-all H) ∙ ap (movedReading a 0) (H .held (accepted (H .rows))) ∙ go (eqb (o .number) 0) ∙ ap (λ z. cond (eqb (o .number) 0) z (denied (o .number) (a + o .place))) (sym e)
+      ap (λ x. movedReading a 0 (strictly s x)) (heard-all H) ∙ ap (movedReading a 0) (H .held (accepted (H .rows))) ∙ go (eqb (o .number) 0) ∙ ap (λ z. cond (eqb (o .number) 0) z (denied (o .number) (a + o .place))) (sym e)
     where
       go : (b : Bool) → movedReading a 0 (cond b (accepted (H .rows)) (denied (o .number) (o .place))) ≡ cond b (accepted (moved a 0 (H .rows))) (denied (o .number) (a + o .place))
       go true = refl

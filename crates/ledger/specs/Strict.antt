@@ -57,18 +57,18 @@ firstRefused s [] w = w
 firstRefused s (r ∷ rs) w = cond (eqb (objection s r) 0) (firstRefused s rs w) (denied (objection s r) (r .start))
 
 -- what is accepted keeps its rows, unless one is refused; a refusal of plain reading stays
-unfoldable pub judged : List ℕ → Reading → Reading
-judged s (accepted rs) = firstRefused s rs (accepted rs)
-judged s (denied n p) = denied n p
+unfoldable pub strictly : List ℕ → Reading → Reading
+strictly s (accepted rs) = firstRefused s rs (accepted rs)
+strictly s (denied n p) = denied n p
 
 abbrev pub strict : List ℕ → Reading
-strict s = judged s (plain s)
+strict s = strictly s (plain s)
 
 -- ---- both profiles, of a part of a ledger and of a ledger
 
 abbrev pub partBy : Profile → List ℕ → Reading
 partBy Plain s = part s
-partBy Strict s = judged s (part s)
+partBy Strict s = strictly s (part s)
 
 abbrev pub readingBy : Profile → List ℕ → Reading
 readingBy Plain s = plain s

@@ -25,7 +25,7 @@ use Rattle.lumbrisse.specs.declared.reply.Reply.{Reply}
 use Rattle.lumbrisse.specs.declared.reply.Handed.{Handed}
 use Rattle.lumbrisse.specs.Numbers.{writtenReply, handedOf}
 use Rattle.lumbrisse.specs.Promises.{PacketPromise, StepPromise}
-use Rattle.lumbrisse.specs.Demand1.{Answers, refuses, HasBytes, NoSpace}
+use Rattle.lumbrisse.specs.Demand1.{Answers, refuses, HasBytes, NoSpace, Fills}
 use Rattle.lumbrisse.specs.Demand1Requests.{Steps, atEntry, atDetail, atEnd, noBuffer, badField}
 use Rattle.lumbrisse.proofs.Demand1Reads.{at-front, bytes-written}
 
@@ -73,10 +73,10 @@ module _ (s t : List ℕ) (k : ℕ) (b : List ℕ) (r : Reply) (u : List ℕ) wh
   m = length x
 
   abbrev Packet : Type 0
-  Packet = Answers writingNumbers (length s) (λ n. (refusing s k t ≡ 0) × HasBytes x b u n) (λ n. (refusing s k t ≡ 0) × NoSpace x b (min m largest) n) (u ≡ b) r
+  Packet = Fills writingNumbers s (refusing s k t ≡ 0) (λ n. refusing s k t ≡ n) x (min m largest) b u r
 
   pub packet-answers : PacketPromise s t k b r u
-      → Answers (10 ∷ 18 ∷ []) (length s) (λ n. (refusing s k t ≡ 0) × HasBytes (packet s k t) b u n) (λ n. (refusing s k t ≡ 0) × NoSpace (packet s k t) b (min (length (packet s k t)) largest) n) (u ≡ b) r
+      → Fills (10 ∷ 18 ∷ []) s (refusing s k t ≡ 0) (λ n. refusing s k t ≡ n) (packet s k t) (min (length (packet s k t)) largest) b u r
   unfolding written writtenLeft writtenReply
   packet-answers P = go (eqb (refusing s k t) 0) refl (P .reply) (P .bytes)
     where
@@ -84,10 +84,10 @@ module _ (s t : List ℕ) (k : ℕ) (b : List ℕ) (r : Reply) (u : List ℕ) wh
           → r ≡ writtenReply (cond q (cond (leb m (length b)) (Written.Bytes m) (Written.Refusal 9 (min m largest))) (Written.Refusal (refusing s k t) 0))
           → u ≡ cond q (cond (leb m (length b)) (x ++ drop m b) b) b → Packet
       go true q e f =
-          bytes-written writingNumbers (length s) (λ n. (refusing s k t ≡ 0) × HasBytes x b u n) (λ n. (refusing s k t ≡ 0) × NoSpace x b (min m largest) n) x b u (min m largest) r (λ h. (eqb-true (refusing s k t) 0 q, h)) (λ h. (eqb-true (refusing s k t) 0 q, h))
+          bytes-written writingNumbers (length s) (λ n. (refusing s k t ≡ 0) × HasBytes x b u n) (λ n. (refusing s k t ≡ 0) × NoSpace x b (min m largest) n) (λ n p. refusing s k t ≡ n) x b u (min m largest) r (λ h. (eqb-true (refusing s k t) 0 q, h)) (λ h. (eqb-true (refusing s k t) 0 q, h))
           writtenReply (Written.Bytes m) (Written.Refusal 9 (min m largest)) refl refl e f
       go false q e f =
-          refuses (refusing s k t) 0 e (at-front writingNumbers (length s) (refusing s k t) (refusing-listed s k t (eqb-false (refusing s k t) 0 q))) f
+          refuses (refusing s k t) 0 e refl (at-front writingNumbers (length s) (refusing s k t) (refusing-listed s k t (eqb-false (refusing s k t) 0 q))) f
 
 -- ---- a step: what refuses is 19 or 20, before the bytes end
 
@@ -172,6 +172,6 @@ module _ (p : List ℕ) (at : ℕ) (b c : List ℕ) (r : Handed) (b′ c′ : Li
     where
       go : (x : Found) → found (drop at p) ≡ x → Came (handed at (length b) (length c) x) → Stepped
       go Found.End d C = atEnd d (C .answer) (C .row) (C .text)
-      go (Found.Bad n before) d C = badField n (at + before) (C .answer) (bad-refusal p at n before d) (C .row) (C .text)
+      go (Found.Bad n before) d C = badField n before d (C .answer) (bad-refusal p at n before d) (C .row) (C .text)
       go Found.Entry d C = entry-step d (leb width (length b)) refl C
       go (Found.Detail n) d C = detail-step n d (leb width (length b)) refl (leb n (length c)) refl C

@@ -34,7 +34,7 @@ use Rattle.lumbrisse.specs.declared.reply.Evaluated.{Evaluated}
 use Rattle.lumbrisse.specs.declared.reply.Part.{Part}
 use Rattle.lumbrisse.specs.Numbers.{replied, replyOf, writtenReply, forceReply, evaluatedOf, partOf}
 use Rattle.lumbrisse.specs.Promises.{TablePromise, ContentPromise, ExpressionPromise, TagPromise, SpanPromise}
-use Rattle.lumbrisse.specs.Demand1.{Answers, accepts, lacks, refuses, Never, Reads, HasBytes, NoSpace, Evaluates, valued, unvalued, TagSaid, PartOf}
+use Rattle.lumbrisse.specs.Demand1.{Answers, accepts, lacks, refuses, Never, ReadsRows, HasBytes, NoSpace, Fills, Evaluates, valued, unvalued, TagSaid, PartOf}
 
 -- ---- refusals
 
@@ -71,31 +71,31 @@ editing-refusal s t k a e y n p d =
 module _ (list s : List ℕ) (D : Reading) (refusal : (n p : ℕ) → D ≡ denied n p → Refusal list (length s) n p) (t : List ℕ) (r : Reply) (u : List ℕ) where
   table-rows : (rs : List Row) → D ≡ accepted rs → (b : Bool) → leb (length rs) (room t) ≡ b
       → r ≡ replyOf (cond b (Answer.Rows (length rs)) (Answer.Refusal 9 0 (length rs)))
-      → u ≡ cond b (rowsBytes rs ++ drop (length rs * width) t) t → Reads list s D t u r
+      → u ≡ cond b (rowsBytes rs ++ drop (length rs * width) t) t → ReadsRows list s D t u r
   unfolding replyOf
   table-rows rs d true l e f =
       accepts (length rs) e (record { rows = rs; defined = d; number = refl; fit = leb-true (length rs) (room t) l; table = f })
   table-rows rs d false l e f =
       lacks (length rs) e (record { rows = rs; defined = d; number = refl; over = leb-false (length rs) (room t) l }) f
 
-  pub table-reads : TablePromise D t r u → Reads list s D t u r
+  pub table-reads : TablePromise D t r u → ReadsRows list s D t u r
   unfolding answer left replyOf
   table-reads P = go D refl (P .reply) (P .rows)
     where
-      go : (x : Reading) → D ≡ x → r ≡ replyOf (answer x (room t)) → u ≡ left x t → Reads list s D t u r
+      go : (x : Reading) → D ≡ x → r ≡ replyOf (answer x (room t)) → u ≡ left x t → ReadsRows list s D t u r
       go (accepted rs) d e f = table-rows rs d (leb (length rs) (room t)) refl e f
-      go (denied n p) d e f = refuses n p e (refusal n p d) f
+      go (denied n p) d e f = refuses n p e d (refusal n p d) f
 
 -- ---- bytes x into a buffer t, told by an answer of any kind: all of them, or the need that is returned
 
-module _ (list : List ℕ) (size : ℕ) (Gives Lacks : ℕ → Type 0) (x t u : List ℕ) (returned : ℕ) (r : Reply) (given : HasBytes x t u (length x) → Gives (length x))
+module _ (list : List ℕ) (size : ℕ) (Gives Lacks : ℕ → Type 0) (Denied : ℕ → ℕ → Type 0) (x t u : List ℕ) (returned : ℕ) (r : Reply) (given : HasBytes x t u (length x) → Gives (length x))
     (short : NoSpace x t returned returned → Lacks returned) where
   pub bytes-written : {A : Type 0} (say : A → Reply) (all need : A) → say all ≡ replied 0 0 (length x) → say need ≡ replied 9 0 returned
       → r ≡ say (cond (leb (length x) (length t)) all need) → u ≡ cond (leb (length x) (length t)) (x ++ drop (length x) t) t
-      → Answers list size Gives Lacks (u ≡ t) r
+      → Answers list size Gives Lacks Denied (u ≡ t) r
   bytes-written say all need a n e f = go (leb (length x) (length t)) refl e f
     where
-      go : (b : Bool) → leb (length x) (length t) ≡ b → r ≡ say (cond b all need) → u ≡ cond b (x ++ drop (length x) t) t → Answers list size Gives Lacks (u ≡ t) r
+      go : (b : Bool) → leb (length x) (length t) ≡ b → r ≡ say (cond b all need) → u ≡ cond b (x ++ drop (length x) t) t → Answers list size Gives Lacks Denied (u ≡ t) r
       go true l e f = accepts (length x) (e ∙ a) (given (record { number = refl; fit = leb-true (length x) (length t) l; buffer = f }))
       go false l e f = lacks returned (e ∙ n) (short (record { number = refl; over = leb-false (length x) (length t) l })) f
 
@@ -107,19 +107,18 @@ module _ (c t : List ℕ) (r : Reply) (u : List ℕ) where
   m = length x
 
   abbrev Content : Type 0
-  Content = Answers (10 ∷ []) (length c) (λ n. (valid c ≡ true) × HasBytes x t u n) (λ n. (valid c ≡ true) × NoSpace x t m n) (u ≡ t) r
+  Content = Fills (10 ∷ []) c (valid c ≡ true) (λ n. valid c ≡ false) x m t u r
 
-  pub content-answers : ContentPromise c t r u
-      → Answers (10 ∷ []) (length c) (λ n. (valid c ≡ true) × HasBytes (unescaped c) t u n) (λ n. (valid c ≡ true) × NoSpace (unescaped c) t (length (unescaped c)) n) (u ≡ t) r
+  pub content-answers : ContentPromise c t r u → Fills (10 ∷ []) c (valid c ≡ true) (λ n. valid c ≡ false) (unescaped c) (length (unescaped c)) t u r
   unfolding contentAnswer contentLeft writtenReply
   content-answers P = go (valid c) refl (P .reply) (P .bytes)
     where
       go : (q : Bool) → valid c ≡ q → r ≡ writtenReply (cond q (cond (leb m (length t)) (Written.Bytes m) (Written.Refusal 9 m)) (Written.Refusal 10 0))
           → u ≡ cond q (cond (leb m (length t)) (x ++ drop m t) t) t → Content
       go true v e f =
-          bytes-written (10 ∷ []) (length c) (λ n. (valid c ≡ true) × HasBytes x t u n) (λ n. (valid c ≡ true) × NoSpace x t m n) x t u m r (λ h. (v, h)) (λ h. (v, h))
+          bytes-written (10 ∷ []) (length c) (λ n. (valid c ≡ true) × HasBytes x t u n) (λ n. (valid c ≡ true) × NoSpace x t m n) (λ n p. valid c ≡ false) x t u m r (λ h. (v, h)) (λ h. (v, h))
           writtenReply (Written.Bytes m) (Written.Refusal 9 m) refl refl e f
-      go false v e f = refuses 10 0 e (at-front (10 ∷ []) (length c) 10 (inl refl)) f
+      go false v e f = refuses 10 0 e v (at-front (10 ∷ []) (length c) 10 (inl refl)) f
 
 -- ---- a tag, an expression, a span
 
@@ -132,14 +131,14 @@ force-ten s t k tag n e = go (leb k (room t)) (eqb (lastNamed s t tag (k - 1)) p
     go true false f = absurd (let z : _≡_ {A = ℕ} 0 1 = cc in omega arith)
     go false c f = cc
 
-pub tag-answers : (s t : List ℕ) (k : ℕ) (tag : List ℕ) (r : Reply) → TagPromise s t k tag r → Answers (10 ∷ []) (length s) (TagSaid s t k tag) Never (Unit {0}) r
+pub tag-answers : (s t : List ℕ) (k : ℕ) (tag : List ℕ) (r : Reply) → TagPromise s t k tag r → Answers (10 ∷ []) (length s) (TagSaid s t k tag) Never (λ n p. inForce s t k tag ≡ Force.Refusal n) (Unit {0}) r
 unfolding forceReply
 tag-answers s t k tag r P = go (inForce s t k tag) refl P
   where
-    go : (x : Force) → inForce s t k tag ≡ x → r ≡ forceReply x → Answers (10 ∷ []) (length s) (TagSaid s t k tag) Never (Unit {0}) r
+    go : (x : Force) → inForce s t k tag ≡ x → r ≡ forceReply x → Answers (10 ∷ []) (length s) (TagSaid s t k tag) Never (λ n p. inForce s t k tag ≡ Force.Refusal n) (Unit {0}) r
     go Force.Yes d e = accepts 1 e (inl (d, refl))
     go Force.Not d e = accepts 0 e (inr (d, refl))
-    go (Force.Refusal n) d e = refuses n 0 e (at-front (10 ∷ []) (length s) n (inl (force-ten s t k tag n d))) tt
+    go (Force.Refusal n) d e = refuses n 0 e d (at-front (10 ∷ []) (length s) n (inl (force-ten s t k tag n d))) tt
 
 pub expression-evaluates : (form : Form) (s : List ℕ)
     → ((n p : ℕ) → evaluated form s ≡ single.Evaluated.Refusal n p → Refusal (1 ∷ 2 ∷ 3 ∷ 11 ∷ 6 ∷ 7 ∷ 8 ∷ []) (length s) n p)
@@ -149,7 +148,7 @@ expression-evaluates form s refusal r P = go (evaluated form s) refl P
   where
     go : (x : single.Evaluated) → evaluated form s ≡ x → r ≡ evaluatedOf x → Evaluates form s r
     go (single.Evaluated.Read e v) d f = valued e v f d
-    go (single.Evaluated.Refusal n p) d f = unvalued n p f (refusal n p d)
+    go (single.Evaluated.Refusal n p) d f = unvalued n p f d (refusal n p d)
 
 part-within : (s : List ℕ) (a e : ℕ) (good : Bool) → goodSpan s a e ≡ good → partOf s a e .start + partOf s a e .length ≤ length s
 unfolding partOf

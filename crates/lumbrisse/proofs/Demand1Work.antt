@@ -25,7 +25,7 @@ use Rattle.lumbrisse.specs.declared.reply.Reply.{Reply}
 use Rattle.lumbrisse.specs.Numbers.{replied, totalsReply, rewriteReply}
 use Rattle.lumbrisse.specs.Promises.{TotalsPromise, WritePromise}
 use Rattle.lumbrisse.specs.Demand1.{Answers, accepts, lacks, refuses, plainNumbers, HasBytes, NoSpace}
-use Rattle.lumbrisse.specs.Demand1Requests.{Early, left, zeros, NoWork, HasItems, NoRoomForItems, Totals, Writes}
+use Rattle.lumbrisse.specs.Demand1Requests.{Early, left, zeros, NoWork, HasItems, NoRoomForItems, NoTotals, Totals, Writes}
 use Rattle.lumbrisse.proofs.Demand1Reads.{at-front, accepted-denied, bytes-written}
 use Rattle.lumbrisse.proofs.Demand1Items.{large-within}
 
@@ -63,7 +63,7 @@ module _ (s : List ℕ) (plain-refusal : (n p : ℕ) → plain s ≡ denied n p 
   abbrev Answered : Type 0
   Answered =
       NoWork s (need y m) (λ n. (length w < n) ⊎ (length v < n)) (t′ ≡ t) r
-      ⊎ Answers (plainNumbers ++ (15 ∷ [])) (length s) (HasItems s y m t t′) (NoRoomForItems s y m t) (t′ ≡ t) r
+      ⊎ Answers (plainNumbers ++ (15 ∷ [])) (length s) (HasItems s y m t t′) (NoRoomForItems s y m t) (NoTotals s y m) (t′ ≡ t) r
 
   -- what a call that came to an outcome told and left
   record Came (D : Outcome) : Type 0 where
@@ -90,7 +90,7 @@ module _ (s : List ℕ) (plain-refusal : (n p : ℕ) → plain s ≡ denied n p 
     unfolding settled totalsReply answerOf itemsLeft workLeft
     counts (Counted.Large a) q C =
         after-use 6 a 0 (C .reply) (λ z. omega arith) (λ z. omega arith) (C .work) (C .spare)
-        (inr (refuses 6 a (C .reply)
+        (inr (refuses 6 a (C .reply) (inr (inr (refl, rs, d, q)))
         (record { listed = inr (inr (inr (inr (inr (inl refl))))); within = large-within s y m rs a d q; front = λ z. absurd (omega arith) }) (C .items)))
     counts (Counted.Items k) q C = go (leb (k * recordWidth) (length t)) refl C
       where
@@ -133,7 +133,7 @@ module _ (s : List ℕ) (plain-refusal : (n p : ℕ) → plain s ≡ denied n p 
         }))
     judged false b e f C =
         before-use 15 0 0 C (λ q. inr (inl (number-is s 15 0 0 r q)))
-        (λ q k. inr (refuses 15 0 q (at-front (plainNumbers ++ (15 ∷ [])) (length s) 15 (inr (inr (inr (inr (inr (inr (inr (inr (inl refl)))))))))) k))
+        (λ q k. inr (refuses 15 0 q (inr (inl (refl, e))) (at-front (plainNumbers ++ (15 ∷ [])) (length s) 15 (inr (inr (inr (inr (inr (inr (inr (inr (inl refl)))))))))) k))
 
   pub totals-answers : TotalsPromise s y m t w v r t′ w′ v′ → Totals s y m t w v r t′ w′ v′
   unfolding decided
@@ -143,7 +143,7 @@ module _ (s : List ℕ) (plain-refusal : (n p : ℕ) → plain s ≡ denied n p 
       go (accepted rs) d C = judged rs d (isMonth m) (leb (need y m rs) (length w) && leb (need y m rs) (length v)) refl refl C
       go (denied n p) d C =
           before-use n p 0 C (λ q. denied-early s n p 0 r q d)
-          (λ q k. inr (refuses n p q (refusal-more plainNumbers (15 ∷ []) (length s) n p (plain-refusal n p d)) k))
+          (λ q k. inr (refuses n p q (inl d) (refusal-more plainNumbers (15 ∷ []) (length s) n p (plain-refusal n p d)) k))
 
 -- ---- a ledger written afresh
 
@@ -158,11 +158,14 @@ module _ (s : List ℕ) (plain-refusal : (n p : ℕ) → plain s ≡ denied n p 
     abbrev Lacks : ℕ → Type 0
     Lacks n = (rs : List Row) × (plain s ≡ accepted rs) × NoSpace (written s rs) o (length (written s rs)) n
 
+    abbrev Denies : ℕ → ℕ → Type 0
+    Denies n p = plain s ≡ denied n p
+
     output : r ≡ rewriteReply (cond (leb size (length o)) (rewritten.Answer.Bytes size) (rewritten.Answer.Refusal 9 0 size))
-        → o′ ≡ cond (leb size (length o)) (written s rs ++ drop size o) o → Answers plainNumbers (length s) Gives Lacks (o′ ≡ o) r
+        → o′ ≡ cond (leb size (length o)) (written s rs ++ drop size o) o → Answers plainNumbers (length s) Gives Lacks Denies (o′ ≡ o) r
     unfolding rewriteReply
     output e f =
-        bytes-written plainNumbers (length s) Gives Lacks (written s rs) o o′ size r (λ h. (rs, d, h)) (λ h. (rs, d, h))
+        bytes-written plainNumbers (length s) Gives Lacks Denies (written s rs) o o′ size r (λ h. (rs, d, h)) (λ h. (rs, d, h))
         rewriteReply (rewritten.Answer.Bytes size) (rewritten.Answer.Refusal 9 0 size) refl refl e f
 
     used : (b : Bool) → r ≡ rewriteReply (cond b (rewritten.Answer.Bytes size) (rewritten.Answer.Refusal 9 0 size)) → Early s r → ⊥
@@ -188,4 +191,4 @@ module _ (s : List ℕ) (plain-refusal : (n p : ℕ) → plain s ≡ denied n p 
       go : (x : Reading) → plain s ≡ x → r ≡ rewriteReply (rewrite.answered s (length o) (length w) x) → o′ ≡ rewrite.outputLeft s (length w) o x → w′ ≡ rewrite.workLeft w x
           → Writes s o w r o′ w′
       go (accepted rs) d e f g = rows-written rs d (leb (rewrite.need rs) (length w)) refl e f g
-      go (denied n p) d e f g = record { answer = inr (refuses n p e (plain-refusal n p d) f); work = left (denied-early s n p 0 r e d) g }
+      go (denied n p) d e f g = record { answer = inr (refuses n p e d (plain-refusal n p d) f); work = left (denied-early s n p 0 r e d) g }

@@ -4,6 +4,7 @@
 -- that is judged before it is used leaves it as it was; else its front, as long as the need, is zeros.
 use Prim.Native.Nat.{ℕ, _+_, _*_, min, _≤_, _<_}
 use mathlib.Core.Path.{_≡_}
+use mathlib.Core.Bool.{false}
 use mathlib.Core.Logic.{_⊎_}
 use mathlib.Core.List.{List, [], _∷_, _++_, map}
 use lib.ListN.{length, drop}
@@ -17,7 +18,9 @@ use Rattle.ledger.specs.Strict.{strict}
 use Rattle.recovery.specs.Recovering.{recoveredStrictly}
 use Rattle.edit.specs.Edits.{editing}
 use Rattle.order.specs.Records.{recordWidth, recordsBytes}
-use Rattle.totals.specs.Totals.{totalsOf, itemRow, need}
+use Rattle.order.specs.Groups.{counted}
+use Rattle.order.specs.declared.runs.Counted.{Counted}
+use Rattle.totals.specs.Totals.{totalsOf, itemRow, isMonth, need}
 use Rattle.layout.specs.Written.{written}
 use Rattle.rewrite.specs.Rewriting as rewrite
 use Rattle.bus.specs.Fields.{entryTag, detailTag, rowField, textPlace}
@@ -28,7 +31,7 @@ use Rattle.lumbrisse.specs.declared.reply.Reply.{Reply}
 use Rattle.lumbrisse.specs.declared.reply.Handed.{Handed}
 use Rattle.lumbrisse.specs.Numbers.{replied, handedBy}
 use Rattle.lumbrisse.specs.Promises.{TablePromise, TotalsPromise, WritePromise, PacketPromise, StepPromise}
-use Rattle.lumbrisse.specs.Demand1.{Answers, plainNumbers, Reads, HasBytes, NoSpace, Fills}
+use Rattle.lumbrisse.specs.Demand1.{Answers, plainNumbers, ReadsRows, HasBytes, NoSpace, Fills}
 
 -- ---- working space w, which is w′ afterwards, of a call that needs so much for the rows of the ledger s
 
@@ -66,9 +69,16 @@ pub record NoRoomForItems (s : List ℕ) (y m : ℕ) (t : List ℕ) (n : ℕ) : 
   pub number : n ≡ length (totalsOf s y m rows) * recordWidth
   pub over : length t < n
 
+-- a refusal of plain reading, 15 for a month that is none, 6 at the first item whose sum is too large
+abbrev pub NoTotals : List ℕ → ℕ → ℕ → ℕ → ℕ → Type 0
+NoTotals s y m n p =
+    (plain s ≡ denied n p)
+    ⊎ (((n ≡ 15) × (isMonth m ≡ false))
+    ⊎ ((n ≡ 6) × (rs : List Row) × (plain s ≡ accepted rs) × (counted (λ r. r .start) 0 (totalsOf s y m rs) ≡ Counted.Large p)))
+
 pub record Totals (s : List ℕ) (y m : ℕ) (t w v : List ℕ) (r : Reply) (t′ w′ v′ : List ℕ) : Type 0 where
   pub answer : NoWork s (need y m) (λ n. (length w < n) ⊎ (length v < n)) (t′ ≡ t) r
-      ⊎ Answers (plainNumbers ++ (15 ∷ [])) (length s) (HasItems s y m t t′) (NoRoomForItems s y m t) (t′ ≡ t) r
+      ⊎ Answers (plainNumbers ++ (15 ∷ [])) (length s) (HasItems s y m t t′) (NoRoomForItems s y m t) (NoTotals s y m) (t′ ≡ t) r
   pub work : Space s (need y m) r w w′
   pub spare : Space s (need y m) r v v′
 
@@ -78,7 +88,8 @@ pub record Writes (s o w : List ℕ) (r : Reply) (o′ w′ : List ℕ) : Type 0
   pub answer : NoWork s rewrite.need (λ n. length w < n) (o′ ≡ o) r
       ⊎ Answers plainNumbers (length s)
       (λ n. (rs : List Row) × (plain s ≡ accepted rs) × HasBytes (written s rs) o o′ n)
-      (λ n. (rs : List Row) × (plain s ≡ accepted rs) × NoSpace (written s rs) o (length (written s rs)) n) (o′ ≡ o) r
+      (λ n. (rs : List Row) × (plain s ≡ accepted rs) × NoSpace (written s rs) o (length (written s rs)) n)
+      (λ n p. plain s ≡ denied n p) (o′ ≡ o) r
   pub work : Space s rewrite.need r w w′
 
 -- one step of a reader at a place of the packet p, with a buffer b for the row and c for the text
@@ -91,22 +102,23 @@ pub data Steps (p : List ℕ) (at : ℕ) (b c : List ℕ) (r : Handed) (b′ c�
   noBuffer : (n : ℕ) → r ≡ handedBy 9 0 0 n
       → ((n ≡ width) × (length b < n)) ⊎ ((found (drop at p) ≡ Found.Detail n) × (length c < n))
       → b′ ≡ b → c′ ≡ c → Steps p at b c r b′ c′
-  badField : (n q : ℕ) → r ≡ handedBy n q 0 0 → Refusal (19 ∷ 20 ∷ []) (length p) n q
+  badField : (n before : ℕ) → found (drop at p) ≡ Found.Bad n before → r ≡ handedBy n (at + before) 0 0
+      → Refusal (19 ∷ 20 ∷ []) (length p) n (at + before)
       → b′ ≡ b → c′ ≡ c → Steps p at b c r b′ c′
 
 -- ---- document 02's calls
 
 pub record Demand1Requests : Type 0 where
   pub readStrict : (s t : List ℕ) (r : Reply) (u : List ℕ) → TablePromise (strict s) t r u
-      → Reads (plainNumbers ++ (16 ∷ 17 ∷ [])) s (strict s) t u r
+      → ReadsRows (plainNumbers ++ (16 ∷ 17 ∷ [])) s (strict s) t u r
   pub recoverStrict : (s t : List ℕ) (r : Reply) (u : List ℕ) → TablePromise (recoveredStrictly s) t r u
-      → Reads (1 ∷ []) s (recoveredStrictly s) t u r
+      → ReadsRows (1 ∷ []) s (recoveredStrictly s) t u r
   pub edit : (s rows : List ℕ) (k a e : ℕ) (y t : List ℕ) (r : Reply) (u : List ℕ) → TablePromise (editing s rows k a e y) t r u
-      → Reads (1 ∷ 10 ∷ []) s (editing s rows k a e y) t u r
+      → ReadsRows (1 ∷ 10 ∷ []) s (editing s rows k a e y) t u r
   pub totals : (s : List ℕ) (y m : ℕ) (t w v : List ℕ) (r : Reply) (t′ w′ v′ : List ℕ)
       → TotalsPromise s y m t w v r t′ w′ v′ → Totals s y m t w v r t′ w′ v′
   pub write : (s o w : List ℕ) (r : Reply) (o′ w′ : List ℕ) → WritePromise s o w r o′ w′ → Writes s o w r o′ w′
   pub packetWrite : (s t : List ℕ) (k : ℕ) (b : List ℕ) (r : Reply) (u : List ℕ) → PacketPromise s t k b r u
-      → Fills (10 ∷ 18 ∷ []) s (refusing s k t ≡ 0) (packet s k t) (min (length (packet s k t)) largest) b u r
+      → Fills (10 ∷ 18 ∷ []) s (refusing s k t ≡ 0) (λ n. refusing s k t ≡ n) (packet s k t) (min (length (packet s k t)) largest) b u r
   pub packetNext : (p : List ℕ) (at : ℕ) (b c : List ℕ) (r : Handed) (b′ c′ : List ℕ)
       → StepPromise p at b c r b′ c′ → Steps p at b c r b′ c′

@@ -14,7 +14,7 @@ use Rattle.text.specs.Boundaries.{isStart}
 use Rattle.entry.specs.Strings.{strings, NoneHolds}
 use Rattle.entry.proofs.EntryCut.{Ends}
 use Rattle.ledger.specs.Plain.{moved, accepted, denied, readFrom, partAt, part, plain}
-use Rattle.ledger.specs.Strict.{firstRefused, judged, partBy, readingBy}
+use Rattle.ledger.specs.Strict.{firstRefused, strictly, partBy, readingBy}
 use Rattle.ledger.specs.declared.scan.Profile.{Profile}
 use Rattle.ledger.specs.declared.scan.Profile.the-variants.{Plain, Strict}
 use Rattle.ledger.proofs.PlainLaws.{Kept, part-kept}
@@ -42,12 +42,12 @@ by-nil K rs e = go (sym part-nil ∙ by-plain K [] rs e)
     go e = cc
 
 pub by-some : (K : Profile) (x : List ℕ) (k q : ℕ) → partBy K x ≡ denied k q → 0 < length x
-unfolding judged firstRefused
+unfolding strictly firstRefused
 by-some Plain [] k q e = absurd (no (sym part-nil ∙ e))
   where
     no : accepted [] ≡ denied k q → ⊥
     no e = let z : _≡_ {A = ℕ} 0 1 = cc in omega arith
-by-some Strict [] k q e = absurd (no (ap (judged []) (sym part-nil) ∙ e))
+by-some Strict [] k q e = absurd (no (ap (strictly []) (sym part-nil) ∙ e))
   where
     no : accepted [] ≡ denied k q → ⊥
     no e = let z : _≡_ {A = ℕ} 0 1 = cc in omega arith
@@ -62,7 +62,7 @@ plain-part s h = rw (le-leb (length s) sizeLimit h)
 
 pub by-part : (K : Profile) (s : List ℕ) → length s ≤ sizeLimit → readingBy K s ≡ partBy K s
 by-part Plain s h = plain-part s h
-by-part Strict s h = ap (judged s) (plain-part s h)
+by-part Strict s h = ap (strictly s) (plain-part s h)
 
 -- a larger ledger is refused
 pub by-size : (K : Profile) (s : List ℕ) (rs : List Row) → readingBy K s ≡ accepted rs → length s ≤ sizeLimit
@@ -72,15 +72,15 @@ by-size Strict s rs e = plain-reads s rs (judged-rows s (plain s) rs e) .0
 -- ---- cut at a boundary that no string holds
 
 -- strict acceptance: plain acceptance, and no row is refused
-pub strict-passes : (s : List ℕ) (rs : List Row) → judged s (part s) ≡ accepted rs → (part s ≡ accepted rs) × Passes s rs
-unfolding judged
+pub strict-passes : (s : List ℕ) (rs : List Row) → strictly s (part s) ≡ accepted rs → (part s ≡ accepted rs) × Passes s rs
+unfolding strictly
 strict-passes s rs e =
     let p = judged-rows s (part s) rs e in
-    (p, all-pass s rs (accepted rs) rs (ap (judged s) (sym p) ∙ e))
+    (p, all-pass s rs (accepted rs) rs (ap (strictly s) (sym p) ∙ e))
 
-passes-strict : (s : List ℕ) (rs : List Row) → part s ≡ accepted rs → Passes s rs → judged s (part s) ≡ accepted rs
-unfolding judged
-passes-strict s rs p c = ap (judged s) p ∙ passes-all s rs (accepted rs) c
+passes-strict : (s : List ℕ) (rs : List Row) → part s ≡ accepted rs → Passes s rs → strictly s (part s) ≡ accepted rs
+unfolding strictly
+passes-strict s rs p c = ap (strictly s) p ∙ passes-all s rs (accepted rs) c
 
 pub by-cut : (K : Profile) (x y : List ℕ) (rs : List Row) → Ends x → isStart (getD y 0 0) ≡ true → partBy K (x ++ y) ≡ accepted rs → NoneHolds (strings (x ++ y) rs)
     → (us : List Row) × (vs : List Row) × (partBy K x ≡ accepted us) × (partBy K y ≡ accepted vs) × (rs ≡ us ++ moved (length x) (feeds x) vs)

@@ -8,7 +8,7 @@ use Rattle.row.specs.declared.table.Row.{Row}
 use Rattle.row.specs.steps.Writing.{Poured}
 use Rattle.ledger.specs.declared.strict.Objection.{Objection}
 use Rattle.ledger.specs.Plain.{Reading, accepted, denied, moved, readFrom, partAt, part}
-use Rattle.ledger.specs.Strict.{judged}
+use Rattle.ledger.specs.Strict.{strictly}
 use Rattle.ledger.specs.declared.scan.Profile.{Profile}
 use Rattle.ledger.specs.declared.scan.Profile.the-variants.{Plain, Strict}
 use Rattle.ledger.specs.declared.scan.Scan.{Scan}
@@ -28,11 +28,11 @@ movedReading a l (denied n p) = denied n (a + p)
 -- the same in a profile: the strict one judges a text by itself
 abbrev pub scannedBy : Profile → ℕ → List ℕ → Reading
 scannedBy Plain a s = scanned a s
-scannedBy Strict a s = movedReading a 0 (judged s (scanned 0 s))
+scannedBy Strict a s = movedReading a 0 (strictly s (scanned 0 s))
 
 abbrev pub partAtBy : Profile → ℕ → List ℕ → Reading
 partAtBy Plain a s = partAt a 1 s
-partAtBy Strict a s = movedReading a 0 (judged s (part s))
+partAtBy Strict a s = movedReading a 0 (strictly s (part s))
 
 -- the objection that is held, or else o, of an entry at a place
 unfoldable pub firstOf : Objection → ℕ → Objection → Objection
