@@ -1,5 +1,5 @@
 -- Rule 9. Literal: optional `-`, blanks, longest run of digits, `.`, `,`. With spaces and commas dropped it must be an
--- optional `-`, digits, at most one `.`, at least one digit. A tab stays, so it misses.
+-- optional `-`, digits, at most one `.`, at least one digit. A tab stays, so it misses: of blanks only spaces may stand.
 use Prim.Native.Nat.{ℕ, suc, _+_, _-_, _*_, _^_}
 use Prim.Native.Char.{code}
 use mathlib.Core.Bool.{Bool, true, false, cond, _&&_, _||_}

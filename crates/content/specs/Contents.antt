@@ -1,4 +1,4 @@
--- Rule 10: the contents of directives, each part of which is hard.
+-- Rule 10: the contents of directives. Each part is hard but those that are optional.
 use Prim.Native.Nat.{ℕ, suc}
 use Prim.Native.Char.{code}
 use mathlib.Core.List.{List, [], _∷_}

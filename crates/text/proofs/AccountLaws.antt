@@ -151,15 +151,15 @@ part-account b e = go (isCapital b) (isSmall b) (isDigit b) (eqb b 45) e
     go false false true m e = refl
     go false l false m e = absurd-bool e
 
--- the end of the parts is not before where they are read from
-parts-from : (s : List ℕ) (i : ℕ) → i ≤ partsFrom s i
+-- the parts end where they are read from or behind it, and within the text
+pub parts-from : (s : List ℕ) (i : ℕ) → (i ≤ partsFrom s i) × (partsFrom s i ≤ i + length s)
 unfolding partsFrom
 parts-from [] i = omega arith
-parts-from (b ∷ s) i = go (inAccount b || (eqb b 58 && startsPart (getD s 0 0))) (parts-from s (i + 1))
+parts-from (b ∷ s) i = go (inAccount b || (eqb b 58 && startsPart (getD s 0 0))) (partsFrom s (i + 1)) (parts-from s (i + 1))
   where
-    go : (c : Bool) → i + 1 ≤ partsFrom s (i + 1) → i ≤ cond c (partsFrom s (i + 1)) i
-    go true h = omega arith
-    go false h = omega arith
+    go : (c : Bool) (j : ℕ) → (i + 1 ≤ j) × (j ≤ i + 1 + length s) → (i ≤ cond c j i) × (cond c j i ≤ i + suc (length s))
+    go true j h = omega arith
+    go false j h = omega arith
 
 -- an account that is read from i on and ends at j goes on at i, or ends there
 module _ (s : List ℕ) (i j : ℕ) (v : j ≡ partsFrom (drop i s) i) where
@@ -178,7 +178,7 @@ module _ (s : List ℕ) (i j : ℕ) (v : j ≡ partsFrom (drop i s) i) where
   ends l = elim (decLt i (length s)) [ yes h ↦ go h (goesOn (getD s i 0) (getD s (i + 1) 0)) refl | no h ↦ rw (getD-past s i (omega arith), none-past) ]
     where
       go : i < length s → (t : Bool) → goesOn (getD s i 0) (getD s (i + 1) 0) ≡ t → t ≡ false
-      go h true e = absurd (omega (arith, v ∙ parts-on s i h e, parts-from (drop (i + 1) s) (i + 1)))
+      go h true e = absurd (omega (arith, v ∙ parts-on s i h e, parts-from (drop (i + 1) s) (i + 1) .0))
       go h false e = refl
 
   -- The invariant is this, and that its first part ends at a.

@@ -26,22 +26,12 @@ use Rattle.text.specs.declared.account.AccountRead.{AccountRead}
 use Rattle.text.specs.declared.date.Dated.{Dated}
 use Rattle.text.proofs.TestLaws.{and-right}
 use Rattle.text.proofs.Steps.{byte-within, such-within, run-from, run-within}
-use Rattle.text.proofs.AccountLaws.{account-answers}
+use Rattle.text.proofs.AccountLaws.{account-answers, parts-from}
 use Rattle.text.proofs.Joins.{readingNumbers, secondPart, Reach, to-reach, miss-reach, hard-reach, must-reach, cond-reach}
 use Rattle.text.proofs.StringSame.{string-ahead, string-ends}
 use Rattle.text.proofs.Compared.{word-compares, shape-compares, compared-length}
 
 -- ---- runs
-
--- one byte further, or no further
-further : (b : Bool) (i j k : ℕ) → (i + 1 ≤ j) × (j ≤ i + 1 + k) → (i ≤ cond b j i) × (cond b j i ≤ i + suc k)
-further true i j k h = omega arith
-further false i j k h = omega arith
-
-parts-from : (r : List ℕ) (i : ℕ) → (i ≤ partsFrom r i) × (partsFrom r i ≤ i + length r)
-unfolding partsFrom
-parts-from [] i = omega arith
-parts-from (x ∷ r) i = further (inAccount x || (eqb x 58 && startsPart (getD r 0 0))) i (partsFrom r (i + 1)) (length r) (parts-from r (i + 1))
 
 pub run-reach : (p : ℕ → Bool) (s : List ℕ) (at : ℕ) → at ≤ length s → (at ≤ runTo p s at) × (runTo p s at ≤ length s)
 run-reach p s at h = (run-from p s at (runTo p s at) refl, run-within p s at (runTo p s at) refl h)

@@ -1,6 +1,7 @@
 -- Rule 11. Transaction: flag (any byte that is no small letter, line feed too) or `txn`; after it all is hard:
 -- optionally gap and string, and optionally gap and a second (then the first is the payee); tags and links with
--- optional blanks before each; line end; metadata; then postings and empty lines.
+-- optional blanks before each; line end; metadata; then postings and empty lines. What is optional or repeated cannot be
+-- missing, so the line end alone can.
 use Prim.Native.Nat.{ℕ, suc, _+_, _-_}
 use mathlib.Core.List.{List, [], _∷_}
 use lib.ListN.{length}
