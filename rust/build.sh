@@ -1,9 +1,9 @@
 # shellcheck shell=sh
 # shellcheck disable=SC2154
-# Sourced by ./lumbrisse and rust/check, which set `root` (the repository's root) and `name` (what their messages start with): builds
-# the archive of the proved reader, and calls cargo for x86-64, which is what the archive has code for. On any other processor Debian's
-# cross compiler and x86-64 Rust library build and qemu-user runs; where these are missing, root gets them installed and everybody
-# else is told their names.
+# Sourced by ./lumbrisse and rust/check, which set `root` (the repository's root) and `name` (what their messages start
+# with): builds the archive of the proved reader, and calls cargo for x86-64, which is what the archive has code for. On
+# any other processor Debian's cross compiler and x86-64 Rust library build and qemu-user runs; where these are missing,
+# root gets them installed and everybody else is told their names.
 
 archive=$root/target/staticlib/liblumbrisse.a
 target=x86_64-unknown-linux-gnu
@@ -19,7 +19,8 @@ fail() {
     exit 2
 }
 
-# step WHAT COMMAND..: says what is done and runs the command with what it writes in the log, whose end is shown where the command fails.
+# step WHAT COMMAND..: says what is done and runs the command with what it writes in the log, whose end is shown where
+# the command fails.
 step() {
     say "$1"
     what=$1

@@ -1,4 +1,4 @@
--- Byte classes of document 01. A text is the list of its bytes; past its end a byte reads as 0, which no rule takes.
+-- Byte classes of document 01. A text is the list of its bytes; past its end a byte reads as 0, and no rule reads on.
 use Prim.Native.Nat.{ℕ, _-_}
 use Prim.Native.Char.{code}
 use Prim.Native.String.{String}

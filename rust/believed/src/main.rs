@@ -1,10 +1,10 @@
 //! Counts the lines of definitions that a customer must believe: those that the promises of the calls reach, by name,
 //! through `specs/`. A line is one of the definition itself: comments, blank lines and imports are not counted.
 //!
-//! `believed [CRATES]` reads the folder of the crates (`crates` where none is given) and writes how many lines the calls
-//! of document 01 reach, these with the demands' statements, and all calls; for the first the share of each crate and
-//! the ten longest. Then it names the definitions in `specs/` that neither a call's promise nor a statement reaches, and
-//! fails where there are any: such ones are steps, and stand in `specs/steps/`.
+//! `believed [CRATES]` reads the folder of the crates (`crates` where none is given) and writes how many lines the
+//! calls of document 01 reach, these with the demands' statements, and all calls; for the first the share of each crate
+//! and the ten longest. Then it names the definitions in `specs/` that neither a call's promise nor a statement
+//! reaches, and fails where there are any: such ones are steps, and stand in `specs/steps/`.
 
 mod source;
 

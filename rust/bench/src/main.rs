@@ -13,10 +13,11 @@
 //! READER is read, recover, read-strict or recover-strict, EVALUATOR expression, exact, stacked or stacked-exact: an
 //! engine in a form.
 //!
-//! DIR is the oracle's folder (or the variable ORACLE), with the program `both` of the differential run. Instructions are counted by
-//! `perf stat` where the machine permits it, else by valgrind's callgrind; with `--plugin`, by a counting plugin of qemu. LIMIT is the
-//! most instructions for a byte that plain reading may take. The tables are in Markdown. Ends with 1 where a limit is not kept: that one,
-//! half of the crate's for recovering reading, or 2.1 times the instructions for twice the bytes of a hostile input.
+//! DIR is the oracle's folder (or the variable ORACLE), with the program `both` of the differential run. Instructions
+//! are counted by `perf stat` where the machine permits it, else by valgrind's callgrind; with `--plugin`, by a
+//! counting plugin of qemu. LIMIT is the most instructions for a byte that plain reading may take. The tables are in
+//! Markdown. Ends with 1 where a limit is not kept: that one, half of the crate's for recovering reading, or 2.1 times
+//! the instructions for twice the bytes of a hostile input.
 
 #![deny(unsafe_code, missing_docs)]
 #![deny(

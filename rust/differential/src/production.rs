@@ -1,4 +1,5 @@
-//! The productions of document 01's grammar that the generator can take, each with its rule, and which of them a ledger took.
+//! The productions of document 01's grammar that the generator can take, each with its rule, and which of them a ledger
+//! took.
 
 /// Says each production once: its name here, and its rule and form in words.
 macro_rules! productions {

@@ -7,7 +7,8 @@ use crate::random::Random;
 /// Plain reading's number among the calls of a case file.
 const PLAIN_READING: u32 = 1;
 
-/// The case of a ledger that the reader reads: the lent table has some bytes more than the rows fill, and any bytes in it.
+/// The case of a ledger that the reader reads: the lent table has some bytes more than the rows fill, and any bytes in
+/// it.
 pub fn case(ledger: &[u8], random: &mut Random) -> Option<Vec<u8>> {
     let rows = lumbrisse::read_to_vec(ledger).ok()?;
     let count = Rows::new(&rows).len();

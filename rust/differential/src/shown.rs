@@ -1,4 +1,5 @@
-//! What the rows of a ledger say, in the oracle's form, worked out from the rows alone; and whether they are formed as document 01 says.
+//! What the rows of a ledger say, in the oracle's form, worked out from the rows alone; and whether they are formed as
+//! document 01 says.
 
 use std::collections::{BTreeMap, BTreeSet};
 use std::fmt::Write as _;
@@ -8,7 +9,8 @@ use lumbrisse::{Kind, Row, Rows};
 /// A row that is not formed as document 01 says, or that stands where no rule puts it.
 pub type Malformed = String;
 
-/// Tables of at most so many rows have each tag in force also asked for by the reader's own call, which goes over all rows.
+/// Tables of at most so many rows have each tag in force also asked for by the reader's own call, which goes over all
+/// rows.
 const ASKED: usize = 1000;
 
 /// A ledger with its table, and what is shown of it so far.
@@ -45,7 +47,8 @@ pub fn shown(ledger: &[u8], table: &[u8]) -> Result<String, Malformed> {
     Ok(shown.out)
 }
 
-/// Entries cut the ledger without gap; lines are counted; details stand in order of start within their entry; fields not named are 0.
+/// Entries cut the ledger without gap; lines are counted; details stand in order of start within their entry; fields
+/// not named are 0.
 fn well_formed(ledger: &[u8], rows: &[Row]) -> Result<(), Malformed> {
     let (mut place, mut line, mut counted) = (0, 1, 0);
     let (mut entry_end, mut last_start) = (0, 0);
@@ -315,7 +318,8 @@ impl<'a> Shown<'a> {
         Ok(())
     }
 
-    /// A row's expression stands behind a blank or a mark and, read as a single one, has the row's value and is read whole.
+    /// A row's expression stands behind a blank or a mark and, read as a single one, has the row's value and is read
+    /// whole.
     fn value_again(&self, start: u32, end: u32, row: &Row) -> Result<(), Malformed> {
         let (start, end) = (start as usize, end as usize);
         let before = start

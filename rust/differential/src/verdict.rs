@@ -18,7 +18,8 @@ pub enum Verdict {
     Same,
     /// The reader refuses it with 4, and the crate gives an error.
     BothRefuse,
-    /// The crate refuses a text of a date's shape that is no date. Its copy with rule 3 reads the ledger, as the reader does.
+    /// The crate refuses a text of a date's shape that is no date. Its copy with rule 3 reads the ledger, as the reader
+    /// does.
     Date(Where),
     /// The ledger lies outside the domain, for this reason.
     Outside(String),

@@ -96,9 +96,9 @@ pub fn read_strict(ledger: &[u8], table: &mut [u8]) -> Result<usize, Refusal> {
 
 /// Recovering reading: goes on behind damage.
 ///
-/// The ledger is cut before each line that starts with a digit or small letter. A block that plain reading accepts gives its rows,
-/// with their places and lines in the whole ledger; any other gives one row of kind [`Kind::Refused`](crate::Kind::Refused). Only
-/// 1 and 9 refuse the call.
+/// The ledger is cut before each line that starts with a digit or small letter. A block that plain reading accepts
+/// gives its rows, with their places and lines in the whole ledger; any other gives one row of kind
+/// [`Kind::Refused`](crate::Kind::Refused). Only 1 and 9 refuse the call.
 ///
 /// ```
 /// use lumbrisse::{Kind, Rows};
@@ -195,8 +195,8 @@ pub fn expression_stacked_exact(text: &[u8]) -> Result<Evaluated, Refusal> {
 
 /// String content without its escapes: writes it to the front of the buffer and gives its length.
 ///
-/// Content is what stands between the quotes of a string. Refused with 10 where it is not valid, then with 9 and the need in
-/// bytes; the buffer then keeps its bytes.
+/// Content is what stands between the quotes of a string. Refused with 10 where it is not valid, then with 9 and the
+/// need in bytes; the buffer then keeps its bytes.
 ///
 /// ```
 /// let mut buffer = [b'.'; 8];
@@ -209,7 +209,8 @@ pub fn content(content: &[u8], buffer: &mut [u8]) -> Result<usize, Refusal> {
     counted(ffi::content(content, buffer))
 }
 
-/// Whether a tag is in force after the first `k` rows of a table: whether `pushtag` was the last of `pushtag` and `poptag` to name it.
+/// Whether a tag is in force after the first `k` rows of a table: whether `pushtag` was the last of `pushtag` and
+/// `poptag` to name it.
 ///
 /// Refused with 10 where the table has no room for `k` rows.
 ///
@@ -225,7 +226,8 @@ pub fn tag_in_force(ledger: &[u8], table: &[u8], k: usize, tag: &[u8]) -> Result
     counted(ffi::tag_in_force(ledger, table, k, tag)).map(|count| count == 1)
 }
 
-/// The text of a span: a part of the ledger itself. Empty, at the ledger's start, where start is over end or end over the length.
+/// The text of a span: a part of the ledger itself. Empty, at the ledger's start, where start is over end or end over
+/// the length.
 ///
 /// ```
 /// let ledger = b"2024-01-31 open Meters:Flat-1\n";

@@ -207,7 +207,8 @@ fn evaluate(
 }
 
 pub fn tag_in_force(ledger: &[u8], table: &[u8], k: usize, tag: &[u8]) -> Reply {
-    // SAFETY: the slices live through the call and are only read, within their lengths, whatever `k` is. No pointer is kept.
+    // SAFETY: the slices live through the call and are only read, within their lengths, whatever `k` is. No pointer is
+    // kept.
     unsafe {
         archive::lumbrisse_tag_in_force(
             ledger.as_ptr(),
@@ -244,8 +245,8 @@ pub fn packet_write(ledger: &[u8], table: &[u8], k: usize, packet: &mut [u8]) ->
 
 pub fn packet_next(packet: &[u8], at: usize, row: &mut [u8], text: &mut [u8]) -> Handed {
     // SAFETY: the three slices live through the call and no two overlap, `row` and `text` being borrowed mutably. The
-    // function is proved for any bytes, lengths and place: it reads within `packet`, writes within `row` and `text`, and
-    // keeps no pointer.
+    // function is proved for any bytes, lengths and place: it reads within `packet`, writes within `row` and `text`,
+    // and keeps no pointer.
     unsafe {
         archive::lumbrisse_packet_next(
             packet.as_ptr(),

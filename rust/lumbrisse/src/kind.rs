@@ -5,7 +5,8 @@ use core::fmt;
 /// Says each kind once: its name in Rust, its number in the table, its name in words, and what it is.
 macro_rules! kinds {
     ($($(#[doc = $doc:literal])+ $kind:ident = $number:literal, $name:literal;)+) => {
-        /// What a row stands for. Kinds 1 to 13 are entries, 20 to 37 details of the entry before them, 90 a refused block.
+        /// What a row stands for. Kinds 1 to 13 are entries, 20 to 37 details of the entry before them, 90 a refused
+        /// block.
         ///
         /// ```
         /// use lumbrisse::Kind;

@@ -1,8 +1,8 @@
 //! Reads Beancount ledgers with a reader whose every answer is proved.
 //!
-//! The reader is written in Rattle and proved against the rules of document 01; this crate links its archive and gives its calls
-//! Rust types. Any bytes at all get rows or a [`Refusal`] with its number and place; nothing panics, and a refused call leaves
-//! every byte of the buffers that it was lent, working space aside ([`totals`], [`write`]).
+//! The reader is written in Rattle and proved against the rules of document 01; this crate links its archive and gives
+//! its calls Rust types. Any bytes at all get rows or a [`Refusal`] with its number and place; nothing panics, and a
+//! refused call leaves every byte of the buffers that it was lent, working space aside ([`totals`], [`write`]).
 //!
 //! | call | gives |
 //! |---|---|
@@ -26,8 +26,8 @@
 //! These lend buffers and allocate nothing. [`read_to_vec`], [`read_strict_to_vec`], [`recover_to_vec`],
 //! [`recover_strict_to_vec`], [`packet_to_vec`], [`edit_to_vec`], [`totals_to_vec`] and [`written`] make a table, a
 //! packet, items or a text that are large enough. [`Rows`] goes over a table row by row, [`Packets`] over a packet,
-//! [`Totals`] over items. [`Reading`] keeps a ledger and its rows together while blocks of it are replaced; [`block_at`]
-//! says where one is.
+//! [`Totals`] over items. [`Reading`] keeps a ledger and its rows together while blocks of it are replaced;
+//! [`block_at`] says where one is.
 //!
 //! Without its default feature `std` the crate is `no_std`, for a display: all but the eight calls that allocate,
 //! [`Reading`], and `std::error::Error` for a refusal, is there.

@@ -1,4 +1,5 @@
-//! The case file of the program `replay`, run through the linked archive: every call, its answer, and every lent byte afterwards.
+//! The case file of the program `replay`, run through the linked archive: every call, its answer, and every lent byte
+//! afterwards.
 //!
 //! The file is `crates/replay/stdin`; `LUMBRISSE_CASES` names another.
 

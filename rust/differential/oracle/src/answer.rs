@@ -1,4 +1,5 @@
-// What the crate `parser` reads, as lines of text. Included once for each of the two crates, which have the same types by different names.
+// What the crate `parser` reads, as lines of text. Included once for each of the two crates, which have the same types
+// by different names.
 
 /// How the crate ended.
 pub enum End {

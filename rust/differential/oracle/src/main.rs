@@ -1,12 +1,14 @@
-//! What beancount-parser 2.6.0 reads with `rust_decimal::Decimal`, and what its copy reads in which rule 3 decides on dates.
+//! What beancount-parser 2.6.0 reads with `rust_decimal::Decimal`, and what its copy reads in which rule 3 decides on
+//! dates.
 //!
 //! ```text
 //! both                   standard input: (length in decimal, LF, so many bytes)*
 //! both --time FILE N     parses FILE N times: the least time in seconds, and how many directives
 //! ```
 //!
-//! The answer to a ledger: a line `read`, `error` or `panic MESSAGE` of the crate as it is; after `error` such a line of the copy; after
-//! `read` the entries; last a line `=`. An amount is a whole number of millionths, or `d` and the decimal where it is none.
+//! The answer to a ledger: a line `read`, `error` or `panic MESSAGE` of the crate as it is; after `error` such a line
+//! of the copy; after `read` the entries; last a line `=`. An amount is a whole number of millionths, or `d` and the
+//! decimal where it is none.
 
 use std::fmt::Write as _;
 use std::io::{self, BufRead, BufReader, BufWriter, Read, Write};

@@ -11,7 +11,8 @@ pub struct Place {
     pub column: usize,
 }
 
-/// A place whose line is known: lines are counted from there, so that a table's refused blocks are not each counted from the start.
+/// A place whose line is known: lines are counted from there, so that a table's refused blocks are not each counted
+/// from the start.
 #[derive(Clone, Copy, Debug)]
 pub struct Known {
     place: usize,

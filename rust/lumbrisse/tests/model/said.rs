@@ -1,5 +1,5 @@
-//! What a ledger says that a writer must keep, from document 02 (M-103): "the same kinds, dates, values and texts (save of
-//! entries, expressions and braces) in the same order".
+//! What a ledger says that a writer must keep, from document 02 (M-103): "the same kinds, dates, values and texts (save
+//! of entries, expressions and braces) in the same order".
 
 use lumbrisse::{Kind, Row, Rows};
 
