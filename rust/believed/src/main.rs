@@ -4,7 +4,8 @@
 //! `believed [CRATES]` reads the folder of the crates (`crates` where none is given) and writes how many lines the
 //! calls of document 01 reach, these with the demands' statements, and all calls; for the first the share of each crate
 //! and the ten longest. Then it names the definitions in `specs/` that neither a call's promise nor a statement
-//! reaches, and fails where there are any: such ones are steps, and stand in `specs/steps/`.
+//! reaches: such ones are steps, and stand in `specs/steps/`. It fails where there are any, and where a call cites a
+//! step.
 
 mod source;
 
@@ -216,6 +217,26 @@ impl Sources {
         roots
     }
 
+    /// The public functions whose contract names a step, as crate and name; and how many public functions there are.
+    fn citing_steps(&self) -> (Vec<(&str, &str)>, usize) {
+        let mut citing = Vec::new();
+        let mut count = 0;
+        for file in self.contracts.iter().filter(|file| file.krate != PROGRAM) {
+            let is_step = |word: &str| {
+                let import = file.imports.get(word.split('.').next().unwrap_or(word));
+                import.is_some_and(|import| import.module.starts_with("steps."))
+            };
+            for contract in &file.found {
+                count += 1;
+                let mut lines = contract.ensures.iter().chain(&contract.requires);
+                if lines.any(|line| source::words(line).any(is_step)) {
+                    citing.push((file.krate.as_str(), contract.name.as_str()));
+                }
+            }
+        }
+        (citing, count)
+    }
+
     /// What is claimed of every input: closed statements, and those that a profile alone is left open in.
     fn statements(&self) -> impl Iterator<Item = usize> + '_ {
         let numbered = self.definitions.iter().enumerate();
@@ -263,7 +284,7 @@ fn told(sources: &Sources, what: &str, numbers: &BTreeSet<usize>) -> String {
     format!("{lines:5} {types:5}   {what}\n")
 }
 
-/// The whole report, and whether every definition in `specs/` is reached.
+/// The whole report, and whether every definition in `specs/` is reached and no call cites a step.
 fn report(sources: &Sources) -> (String, bool) {
     let first = sources.reached(sources.roots(|krate, name| DOCUMENT_01.contains(&(krate, name))));
     let listed = |call: (&str, &str)| DOCUMENT_01.contains(&call) || DOCUMENT_02.contains(&call);
@@ -302,6 +323,20 @@ fn report(sources: &Sources) -> (String, bool) {
         out += &format!("{:5} {name} ({file})\n", definition.text.len());
     }
 
+    let (citing, count) = sources.citing_steps();
+    let calls = citing
+        .iter()
+        .filter(|&&(krate, name)| krate == EXPORTS || listed((krate, name)));
+    let calls: Vec<String> = calls
+        .map(|(krate, name)| format!("      {name} ({krate})\n"))
+        .collect();
+    out += &format!(
+        "\nof {count} public functions {} cite a step, of the calls {}\n",
+        citing.len(),
+        calls.len()
+    );
+    out += &calls.concat();
+
     let used = sources.reached(all.iter().copied().chain(sources.statements()));
     let numbered = sources.definitions.iter().enumerate();
     let unused =
@@ -314,7 +349,7 @@ fn report(sources: &Sources) -> (String, bool) {
         unused.len()
     );
     out += &unused.concat();
-    (out, unused.is_empty())
+    (out, unused.is_empty() && calls.is_empty())
 }
 
 /// Reads every crate in the folder.
@@ -343,10 +378,10 @@ fn main() -> ExitCode {
             return ExitCode::from(2);
         }
     };
-    let (text, all_reached) = report(&sources);
+    let (text, apart) = report(&sources);
     // a reader that has seen enough closes the pipe
     let _ = std::io::stdout().write_all(text.as_bytes());
-    if all_reached {
+    if apart {
         ExitCode::SUCCESS
     } else {
         ExitCode::FAILURE

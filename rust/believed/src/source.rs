@@ -186,10 +186,11 @@ pub fn declared(krate: &str, file: &str, text: &str) -> Vec<Definition> {
     found
 }
 
-/// A public function's contract: the lines that say what it ensures.
+/// A public function's contract: the lines that say what it ensures, and those that say what it asks for.
 pub struct Contract {
     pub name: String,
     pub ensures: Vec<String>,
+    pub requires: Vec<String>,
 }
 
 /// The contracts of a file of `src/`, and its ghost imports.
@@ -204,13 +205,19 @@ pub fn contracts(text: &str) -> (Vec<Contract>, HashMap<String, Import>) {
         if line.starts_with("pub fn ") || line.starts_with("pub extern \"C\" fn ") {
             let name = line.split("fn ").nth(1).unwrap_or("");
             let name = name.split(['(', '<']).next().unwrap_or("").to_string();
-            let ensures = Vec::new();
-            found.push(Contract { name, ensures });
+            let (ensures, requires) = (Vec::new(), Vec::new());
+            found.push(Contract {
+                name,
+                ensures,
+                requires,
+            });
             open = true;
         }
-        if open && line.trim_start().starts_with("ensures") {
-            if let Some(contract) = found.last_mut() {
+        if let (true, Some(contract)) = (open, found.last_mut()) {
+            if line.trim_start().starts_with("ensures") {
                 contract.ensures.push(line.to_string());
+            } else if line.trim_start().starts_with("requires") {
+                contract.requires.push(line.to_string());
             }
         }
         open &= line != "{";
