@@ -11,6 +11,7 @@ use lib.ListN.{length, drop, length-drop}
 use Rattle.decimal.specs.Exact.{largest}
 use Rattle.text.specs.Every.{OneOf}
 use Rattle.text.specs.Refusals.{Refusal}
+use Rattle.text.proofs.EveryLaws.{one-has}
 use Rattle.row.specs.declared.table.Row.{Row}
 use Rattle.row.specs.Row.{width, room}
 use Rattle.access.specs.declared.written.Written.{Written}
@@ -133,11 +134,7 @@ found-within r = go (eqb (length r) 0) refl (eqb (fieldFault (whole r) (isRow r)
 bad-refusal : (p : List ℕ) (at n before : ℕ) → found (drop at p) ≡ Found.Bad n before → Refusal readingNumbers (length p) n (at + before)
 bad-refusal p at n before e =
     let h : Within (drop at p) (Found.Bad n before) = subst (Within (drop at p)) e (found-within (drop at p)) in
-    record { listed = h .0; within = omega (arith, length-drop at p, h .1 .0, h .1 .1); front = λ o. absurd (not-one n (h .0) o) }
-  where
-    not-one : (n : ℕ) → OneOf readingNumbers n → n ≡ 1 → ⊥
-    not-one n (inl x) o = omega arith
-    not-one n (inr (inl x)) o = omega arith
+    record { listed = h .0; within = omega (arith, length-drop at p, h .1 .0, h .1 .1); front = λ o. absurd (omega (arith, one-has (λ m. 1 < m) readingNumbers n (omega arith) (h .0))) }
 
 module _ (p : List ℕ) (at : ℕ) (b c : List ℕ) (r : Handed) (b′ c′ : List ℕ) where
   -- what a call that came to a step told and left

@@ -8,8 +8,8 @@ use mathlib.Core.List.{List, [], _∷_, _++_, map}
 use borrow.Author.Tests.{leb-true, leb-false}
 use lib.Dec.{leb}
 use lib.ListN.{length, drop, length-map}
-use Rattle.text.specs.Every.{OneOf}
 use Rattle.text.specs.Refusals.{Refusal}
+use Rattle.text.proofs.EveryLaws.{one-left}
 use Rattle.row.specs.declared.table.Row.{Row}
 use Rattle.row.specs.Work.{cleared}
 use Rattle.ledger.specs.Plain.{Reading, accepted, denied, plain}
@@ -29,15 +29,9 @@ use Rattle.lumbrisse.specs.Demand1Requests.{Early, left, zeros, NoWork, 
 use Rattle.lumbrisse.proofs.Demand1Reads.{at-front, accepted-denied, bytes-written}
 use Rattle.lumbrisse.proofs.Demand1Items.{large-within}
 
--- ---- a list with more numbers
-
-one-of-more : (list more : List ℕ) (n : ℕ) → OneOf list n → OneOf (list ++ more) n
-one-of-more [] more n h = absurd h
-one-of-more (m ∷ list) more n (inl e) = inl e
-one-of-more (m ∷ list) more n (inr h) = inr (one-of-more list more n h)
-
+-- a list with more numbers
 refusal-more : (list more : List ℕ) (size n p : ℕ) → Refusal list size n p → Refusal (list ++ more) size n p
-refusal-more list more size n p R = record { listed = one-of-more list more n (R .listed); within = R .within; front = R .front }
+refusal-more list more size n p R = record { listed = one-left list more n (R .listed); within = R .within; front = R .front }
 
 -- ---- what is judged before working space is used, and what is not
 
