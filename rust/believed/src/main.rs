@@ -4,9 +4,11 @@
 //! `believed [CRATES]` reads the folder of the crates (`crates` where none is given) and writes how many lines the
 //! calls of document 01 reach, these with the demands' statements, and all calls; for the first the share of each crate
 //! and the ten longest. Then it names the definitions in `specs/` that neither a call's promise nor a statement
-//! reaches: such ones are steps, and stand in `specs/steps/`. It fails where there are any, and where a call cites a
-//! step.
+//! reaches: such ones are steps, and stand in `specs/steps/`. Last it looks whether each name stands in the file that
+//! `docs/RULES.md` and `docs/LANGUAGE.md`, beside the folder, give for it. It fails where there is such a definition or
+//! name, and where a call cites a step.
 
+mod pages;
 mod source;
 
 use source::{Contract, Definition, Import};
@@ -61,6 +63,16 @@ const ASIDE: &[&str] = &[
 
 /// The crate of the exports: all of its public functions are calls, or say what a call answers.
 const EXPORTS: &str = "lumbrisse";
+
+/// How a page says where definitions stand.
+type Claims = fn(&str) -> Vec<pages::Claim>;
+
+/// The pages that do.
+const PAGES: [(&str, Claims); 3] = [
+    ("RULES.md", pages::in_tables),
+    ("LANGUAGE.md", pages::in_tables),
+    ("LANGUAGE.md", pages::in_paragraphs),
+];
 
 /// A program that makes the calls: nobody must believe it.
 const PROGRAM: &str = "replay";
@@ -352,6 +364,22 @@ fn report(sources: &Sources) -> (String, bool) {
     (out, unused.is_empty() && calls.is_empty())
 }
 
+/// The names that the pages look for in the wrong file, as a report, and how many there are.
+fn pages_report(crates: &Path) -> std::io::Result<(String, usize)> {
+    let docs = crates.join("../docs");
+    let mut out = String::new();
+    let (mut looked, mut wrong) = (0, 0);
+    for (page, claims_of) in PAGES {
+        let claims = claims_of(&fs::read_to_string(docs.join(page))?);
+        let told = pages::wrong(page, &claims, crates);
+        looked += claims.len();
+        wrong += told.len();
+        out += &told.concat();
+    }
+    let head = format!("\nof {looked} names in the pages, not where the page says: {wrong}\n");
+    Ok((head + &out, wrong))
+}
+
 /// Reads every crate in the folder.
 fn read(crates: &Path) -> std::io::Result<Sources> {
     let mut sources = Sources::default();
@@ -371,17 +399,18 @@ fn main() -> ExitCode {
     let folder = std::env::args()
         .nth(1)
         .unwrap_or_else(|| "crates".to_string());
-    let sources = match read(Path::new(&folder)) {
-        Ok(sources) => sources,
+    let crates = Path::new(&folder);
+    let told = read(crates).and_then(|sources| Ok((report(&sources), pages_report(crates)?)));
+    let ((text, apart), (pages, wrong)) = match told {
+        Ok(told) => told,
         Err(error) => {
             eprintln!("believed: {folder}: {error}");
             return ExitCode::from(2);
         }
     };
-    let (text, apart) = report(&sources);
     // a reader that has seen enough closes the pipe
-    let _ = std::io::stdout().write_all(text.as_bytes());
-    if apart {
+    let _ = std::io::stdout().write_all((text + &pages).as_bytes());
+    if apart && wrong == 0 {
         ExitCode::SUCCESS
     } else {
         ExitCode::FAILURE
