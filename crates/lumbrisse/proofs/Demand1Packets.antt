@@ -85,10 +85,10 @@ module _ (s t : List ℕ) (k : ℕ) (b : List ℕ) (r : Reply) (u : List ℕ) wh
           → r ≡ writtenReply (cond q (cond (leb m (length b)) (Written.Bytes m) (Written.Refusal 9 (min m largest))) (Written.Refusal (refusing s k t) 0))
           → u ≡ cond q (cond (leb m (length b)) (x ++ drop m b) b) b → Packet
       go true q e f =
-          bytes-written writingNumbers (length s) (λ n. (refusing s k t ≡ 0) × HasBytes x b u n) (λ n. (refusing s k t ≡ 0) × NoSpace x b (min m largest) n) (λ n p. refusing s k t ≡ n) x b u (min m largest) r (λ h. (eqb-true (refusing s k t) 0 q, h)) (λ h. (eqb-true (refusing s k t) 0 q, h))
+          bytes-written writingNumbers (length s) (λ n. (refusing s k t ≡ 0) × HasBytes x b u n) (λ n. (refusing s k t ≡ 0) × NoSpace x b (min m largest) n) (λ n p. (refusing s k t ≡ n) × (p ≡ 0)) x b u (min m largest) r (λ h. (eqb-true (refusing s k t) 0 q, h)) (λ h. (eqb-true (refusing s k t) 0 q, h))
           writtenReply (Written.Bytes m) (Written.Refusal 9 (min m largest)) refl refl e f
       go false q e f =
-          refuses (refusing s k t) 0 e refl (at-front writingNumbers (length s) (refusing s k t) (refusing-listed s k t (eqb-false (refusing s k t) 0 q))) f
+          refuses (refusing s k t) 0 e (refl, refl) (at-front writingNumbers (length s) (refusing s k t) (refusing-listed s k t (eqb-false (refusing s k t) 0 q))) f
 
 -- ---- a step: what refuses is 19 or 20, before the bytes end
 

@@ -116,9 +116,9 @@ module _ (c t : List ℕ) (r : Reply) (u : List ℕ) where
       go : (q : Bool) → valid c ≡ q → r ≡ writtenReply (cond q (cond (leb m (length t)) (Written.Bytes m) (Written.Refusal 9 m)) (Written.Refusal 10 0))
           → u ≡ cond q (cond (leb m (length t)) (x ++ drop m t) t) t → Content
       go true v e f =
-          bytes-written (10 ∷ []) (length c) (λ n. (valid c ≡ true) × HasBytes x t u n) (λ n. (valid c ≡ true) × NoSpace x t m n) (λ n p. valid c ≡ false) x t u m r (λ h. (v, h)) (λ h. (v, h))
+          bytes-written (10 ∷ []) (length c) (λ n. (valid c ≡ true) × HasBytes x t u n) (λ n. (valid c ≡ true) × NoSpace x t m n) (λ n p. (valid c ≡ false) × (p ≡ 0)) x t u m r (λ h. (v, h)) (λ h. (v, h))
           writtenReply (Written.Bytes m) (Written.Refusal 9 m) refl refl e f
-      go false v e f = refuses 10 0 e v (at-front (10 ∷ []) (length c) 10 (inl refl)) f
+      go false v e f = refuses 10 0 e (v, refl) (at-front (10 ∷ []) (length c) 10 (inl refl)) f
 
 -- ---- a tag, an expression, a span
 
@@ -131,14 +131,14 @@ force-ten s t k tag n e = go (leb k (room t)) (eqb (lastNamed s t tag (k - 1)) p
     go true false f = absurd (let z : _≡_ {A = ℕ} 0 1 = cc in omega arith)
     go false c f = cc
 
-pub tag-answers : (s t : List ℕ) (k : ℕ) (tag : List ℕ) (r : Reply) → TagPromise s t k tag r → Answers (10 ∷ []) (length s) (TagSaid s t k tag) Never (λ n p. inForce s t k tag ≡ Force.Refusal n) (Unit {0}) r
+pub tag-answers : (s t : List ℕ) (k : ℕ) (tag : List ℕ) (r : Reply) → TagPromise s t k tag r → Answers (10 ∷ []) (length s) (TagSaid s t k tag) Never (λ n p. (inForce s t k tag ≡ Force.Refusal n) × (p ≡ 0)) (Unit {0}) r
 unfolding forceReply
 tag-answers s t k tag r P = go (inForce s t k tag) refl P
   where
-    go : (x : Force) → inForce s t k tag ≡ x → r ≡ forceReply x → Answers (10 ∷ []) (length s) (TagSaid s t k tag) Never (λ n p. inForce s t k tag ≡ Force.Refusal n) (Unit {0}) r
+    go : (x : Force) → inForce s t k tag ≡ x → r ≡ forceReply x → Answers (10 ∷ []) (length s) (TagSaid s t k tag) Never (λ n p. (inForce s t k tag ≡ Force.Refusal n) × (p ≡ 0)) (Unit {0}) r
     go Force.Yes d e = accepts 1 e (inl (d, refl))
     go Force.Not d e = accepts 0 e (inr (d, refl))
-    go (Force.Refusal n) d e = refuses n 0 e d (at-front (10 ∷ []) (length s) n (inl (force-ten s t k tag n d))) tt
+    go (Force.Refusal n) d e = refuses n 0 e (d, refl) (at-front (10 ∷ []) (length s) n (inl (force-ten s t k tag n d))) tt
 
 pub expression-evaluates : (form : Form) (s : List ℕ)
     → ((n p : ℕ) → evaluated form s ≡ single.Evaluated.Refusal n p → Refusal (1 ∷ 2 ∷ 3 ∷ 11 ∷ 6 ∷ 7 ∷ 8 ∷ []) (length s) n p)

@@ -127,7 +127,7 @@ module _ (s : List ℕ) (plain-refusal : (n p : ℕ) → plain s ≡ denied n p 
         }))
     judged false b e f C =
         before-use 15 0 0 C (λ q. inr (inl (number-is s 15 0 0 r q)))
-        (λ q k. inr (refuses 15 0 q (inr (inl (refl, e))) (at-front (plainNumbers ++ (15 ∷ [])) (length s) 15 (inr (inr (inr (inr (inr (inr (inr (inr (inl refl)))))))))) k))
+        (λ q k. inr (refuses 15 0 q (inr (inl (refl, refl, e))) (at-front (plainNumbers ++ (15 ∷ [])) (length s) 15 (inr (inr (inr (inr (inr (inr (inr (inr (inl refl)))))))))) k))
 
   pub totals-answers : TotalsPromise s y m t w v r t′ w′ v′ → Totals s y m t w v r t′ w′ v′
   unfolding decided

@@ -1,13 +1,15 @@
--- Demand 1. Any bytes at all get either rows or a numbered refusal with its place. No call relies on its caller. After a
--- refusal every lent buffer holds what it held.
+-- Demand 1. Any bytes at all get either rows or a numbered refusal with its place. No call relies on its caller. After
+-- a refusal every lent buffer holds what it held.
 --
--- Said of document 01's calls, for every input (`Demand1Requests.antt` says it of document 02's). An answer that meets the
--- export's promise is one of three, and after the last two every lent byte is as it was:
+-- Said of document 01's calls, for every input (`Demand1Requests.antt` says it of document 02's). An answer that meets
+-- the export's promise, which is the `ensures` above its code (`src/lib.rt`), is one of three, and after the last two
+-- what was lent to be written is as it was:
 --     accepts   number 0, with the rows or the value that the definitions give
 --     lacks     number 9 at place 0; the count is what the definitions need, and that is more than was lent
---     refuses   where the definitions refuse: their number, which is one of the call's own list, at their place, which is
---               within the text (and 0 for number 1), and no count
--- Exactly one answer meets a promise (`proofs/Unique.antt`).
+--     refuses   where the definitions refuse: their number, which is one of the call's own list, at their place, which
+--               is within the text (and 0 for number 1), and no count
+-- An expression and a tag never lack anything, and a span is never refused. For every input one answer meets the
+-- promise, and no second one does (`proofs/Unique.antt`).
 use Prim.Native.Nat.{ℕ, _+_, _*_, _≤_, _<_}
 use mathlib.Core.Path.{_≡_}
 use mathlib.Core.Bool.{true, false}
@@ -36,13 +38,15 @@ use Rattle.lumbrisse.specs.Promises.{TablePromise, ContentPromise, Expre
 
 -- ---- one of three: the answer r of a call on a text of `size` bytes that refuses with the numbers of `list`
 
-pub data Answers (list : List ℕ) (size : ℕ) (Gives Lacks : ℕ → Type 0) (Denied : ℕ → ℕ → Type 0) (Kept : Type 0) (r : Reply) : Type 0 where
+pub data Answers (list : List ℕ) (size : ℕ) (Gives Lacks : ℕ → Type 0) (Denied : ℕ → ℕ → Type 0) (Kept : Type 0)
+    (r : Reply) : Type 0 where
   -- with a count n, of which Gives says what it counts
   accepts : (n : ℕ) → r ≡ replied 0 0 n → Gives n → Answers list size Gives Lacks Denied Kept r
   -- with a need n, of which Lacks says what needs it
   lacks : (n : ℕ) → r ≡ replied 9 0 n → Lacks n → Kept → Answers list size Gives Lacks Denied Kept r
   -- with number n at place p
-  refuses : (n p : ℕ) → r ≡ replied n p 0 → Denied n p → Refusal list size n p → Kept → Answers list size Gives Lacks Denied Kept r
+  refuses : (n p : ℕ) → r ≡ replied n p 0 → Denied n p → Refusal list size n p → Kept
+      → Answers list size Gives Lacks Denied Kept r
 
 -- plain reading's list
 abbrev pub plainNumbers : List ℕ
@@ -72,7 +76,7 @@ pub record NoRoom (D : Reading) (t : List ℕ) (n : ℕ) : Type 0 where
 abbrev pub ReadsRows : List ℕ → List ℕ → Reading → List ℕ → List ℕ → Reply → Type 0
 ReadsRows list s D t u r = Answers list (length s) (HasRows D t u) (NoRoom D t) (λ n p. D ≡ denied n p) (u ≡ t) r
 
--- ---- bytes: x into a buffer t, which is u afterwards, and the need that 9 returns for it
+-- ---- bytes: x into a buffer t, which is u afterwards; `returned` is the need that 9 returns for them
 
 pub record HasBytes (x t u : List ℕ) (n : ℕ) : Type 0 where
   pub number : n ≡ length x
@@ -83,10 +87,11 @@ pub record NoSpace (x t : List ℕ) (returned n : ℕ) : Type 0 where
   pub number : n ≡ returned
   pub over : length t < length x
 
--- where Good holds; Bad says what refuses
+-- where Good holds; Bad says what refuses, at place 0
 abbrev pub Fills : List ℕ → List ℕ → Type 0 → (ℕ → Type 0) → List ℕ → ℕ → List ℕ → List ℕ → Reply → Type 0
 Fills list s Good Bad x returned t u r =
-    Answers list (length s) (λ n. Good × HasBytes x t u n) (λ n. Good × NoSpace x t returned n) (λ n p. Bad n) (u ≡ t) r
+    Answers list (length s) (λ n. Good × HasBytes x t u n) (λ n. Good × NoSpace x t returned n)
+    (λ n p. Bad n × (p ≡ 0)) (u ≡ t) r
 
 -- ---- the calls whose answers have other numbers
 
@@ -94,8 +99,8 @@ Fills list s Good Bad x returned t u r =
 pub data Evaluates (form : Form) (s : List ℕ) (r : Evaluated) : Type 0 where
   valued : (e : ℕ) (v : Decimal) → r ≡ record { number = 0; place = e; bits = twosOf (wholeOf v) }
       → evaluated form s ≡ single.Evaluated.Read e v → Evaluates form s r
-  unvalued : (n p : ℕ) → r ≡ record { number = n; place = p; bits = 0 } → evaluated form s ≡ single.Evaluated.Refusal n p
-      → Refusal (1 ∷ 2 ∷ 3 ∷ 11 ∷ 6 ∷ 7 ∷ 8 ∷ []) (length s) n p → Evaluates form s r
+  unvalued : (n p : ℕ) → r ≡ record { number = n; place = p; bits = 0 }
+      → evaluated form s ≡ single.Evaluated.Refusal n p → Refusal (1 ∷ 2 ∷ 3 ∷ 11 ∷ 6 ∷ 7 ∷ 8 ∷ []) (length s) n p → Evaluates form s r
 
 -- a tag: 1 where it is in force, 0 where it is not
 abbrev pub TagSaid : List ℕ → List ℕ → ℕ → List ℕ → ℕ → Type 0
@@ -117,5 +122,6 @@ pub record Demand1 : Type 0 where
   pub content : (c t : List ℕ) (r : Reply) (u : List ℕ) → ContentPromise c t r u
       → Fills (10 ∷ []) c (valid c ≡ true) (λ n. valid c ≡ false) (unescaped c) (length (unescaped c)) t u r
   pub tagInForce : (s t : List ℕ) (k : ℕ) (tag : List ℕ) (r : Reply) → TagPromise s t k tag r
-      → Answers (10 ∷ []) (length s) (TagSaid s t k tag) Never (λ n p. inForce s t k tag ≡ Force.Refusal n) (Unit {0}) r
+      → Answers (10 ∷ []) (length s) (TagSaid s t k tag) Never
+      (λ n p. (inForce s t k tag ≡ Force.Refusal n) × (p ≡ 0)) (Unit {0}) r
   pub span : (s : List ℕ) (a e : ℕ) (r : Part) → SpanPromise s a e r → PartOf s a e r

@@ -73,7 +73,7 @@ pub record NoRoomForItems (s : List ℕ) (y m : ℕ) (t : List ℕ) (n : ℕ) : 
 abbrev pub NoTotals : List ℕ → ℕ → ℕ → ℕ → ℕ → Type 0
 NoTotals s y m n p =
     (plain s ≡ denied n p)
-    ⊎ (((n ≡ 15) × (isMonth m ≡ false))
+    ⊎ (((n ≡ 15) × (p ≡ 0) × (isMonth m ≡ false))
     ⊎ ((n ≡ 6) × (rs : List Row) × (plain s ≡ accepted rs) × (counted (λ r. r .start) 0 (totalsOf s y m rs) ≡ Counted.Large p)))
 
 pub record Totals (s : List ℕ) (y m : ℕ) (t w v : List ℕ) (r : Reply) (t′ w′ v′ : List ℕ) : Type 0 where
