@@ -5,7 +5,7 @@ use mathlib.Core.Path.{_≡_, refl, subst}
 use mathlib.Core.Bool.{Bool, true, false, cond}
 use mathlib.Core.Logic.{_⊎_, inl, inr}
 use mathlib.Core.List.{List, [], _∷_, _++_}
-use borrow.Author.Tests.{leb-false, eqb-true, eqb-false}
+use borrow.Author.Tests.{leb-true, leb-false, eqb-true, eqb-false}
 use lib.Dec.{eqb, leb}
 use lib.ListN.{length, drop, length-drop}
 use Rattle.decimal.specs.Exact.{largest}
@@ -26,8 +26,8 @@ use Rattle.lumbrisse.specs.declared.reply.Reply.{Reply}
 use Rattle.lumbrisse.specs.declared.reply.Handed.{Handed}
 use Rattle.lumbrisse.specs.Numbers.{writtenReply, handedOf}
 use Rattle.lumbrisse.specs.Promises.{PacketPromise, StepPromise}
-use Rattle.lumbrisse.specs.Demand1.{Answers, refuses, HasBytes, NoSpace, Fills}
-use Rattle.lumbrisse.specs.Demand1Requests.{Steps, atEntry, atDetail, atEnd, noBuffer, badField}
+use Rattle.lumbrisse.specs.Demand1.{refuses, HasBytes, NoSpace, Fills}
+use Rattle.lumbrisse.specs.Demand1Requests.{RowFound, Steps, atEntry, atDetail, atEnd, noBuffer, badField}
 use Rattle.lumbrisse.proofs.Demand1Reads.{at-front, bytes-written}
 
 -- ---- a packet written: what refuses is 10 or 18
@@ -147,21 +147,21 @@ module _ (p : List ℕ) (at : ℕ) (b c : List ℕ) (r : Handed) (b′ c′ : Li
   Stepped = Steps p at b c r b′ c′
 
   -- either buffer is too short
-  short : (n : ℕ) → Came (Step.Refusal 9 0 n) → ((n ≡ width) × (length b < n)) ⊎ ((found (drop at p) ≡ Found.Detail n) × (length c < n)) → Stepped
+  short : (n : ℕ) → Came (Step.Refusal 9 0 n) → (RowFound (drop at p) × (n ≡ width) × (length b < n)) ⊎ ((found (drop at p) ≡ Found.Detail n) × (length c < n)) → Stepped
   unfolding handedOf rowLeft textLeft
   short n C h = noBuffer n (C .answer) h (C .row) (C .text)
 
   entry-step : found (drop at p) ≡ Found.Entry → (l : Bool) → leb width (length b) ≡ l → Came (cond l (Step.Entry (at + rowField)) (Step.Refusal 9 0 width)) → Stepped
   unfolding handedOf rowLeft textLeft
-  entry-step d true l C = atEntry d (C .answer) (C .row) (C .text)
-  entry-step d false l C = short width C (inl (refl, leb-false width (length b) l))
+  entry-step d true l C = atEntry d (C .answer) (leb-true width (length b) l) (C .row) (C .text)
+  entry-step d false l C = short width C (inl (inl d, refl, leb-false width (length b) l))
 
   detail-step : (n : ℕ) → found (drop at p) ≡ Found.Detail n → (l : Bool) → leb width (length b) ≡ l → (m : Bool) → leb n (length c) ≡ m
       → Came (cond l (cond m (Step.Detail (at + textPlace + n) n) (Step.Refusal 9 0 n)) (Step.Refusal 9 0 width)) → Stepped
   unfolding handedOf rowLeft textLeft
-  detail-step n d true l true m C = atDetail n d (C .answer) (C .row) (C .text)
+  detail-step n d true l true m C = atDetail n d (C .answer) (leb-true width (length b) l) (leb-true n (length c) m) (C .row) (C .text)
   detail-step n d true l false m C = short n C (inr (d, leb-false n (length c) m))
-  detail-step n d false l m w C = short width C (inl (refl, leb-false width (length b) l))
+  detail-step n d false l m w C = short width C (inl (inr (n, d), refl, leb-false width (length b) l))
 
   pub step-hands : StepPromise p at b c r b′ c′ → Steps p at b c r b′ c′
   unfolding handed handedOf rowLeft textLeft

@@ -158,6 +158,7 @@ part-within s a e false g = rw g (omega arith)
 pub span-part : (s : List ℕ) (a e : ℕ) (r : Part) → SpanPromise s a e r → PartOf s a e r
 span-part s a e r P =
     record {
+      part = P .part;
       within = subst (λ (x : Part). x .start + x .length ≤ length s) (sym (P .part)) (part-within s a e (goodSpan s a e) refl);
       text = P .text;
     }

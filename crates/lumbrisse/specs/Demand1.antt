@@ -33,7 +33,7 @@ use Rattle.access.specs.Spans.{spanText}
 use Rattle.lumbrisse.specs.declared.reply.Reply.{Reply}
 use Rattle.lumbrisse.specs.declared.reply.Evaluated.{Evaluated}
 use Rattle.lumbrisse.specs.declared.reply.Part.{Part}
-use Rattle.lumbrisse.specs.Numbers.{replied}
+use Rattle.lumbrisse.specs.Numbers.{replied, partOf}
 use Rattle.lumbrisse.specs.Promises.{TablePromise, ContentPromise, ExpressionPromise, TagPromise, SpanPromise}
 
 -- ---- one of three: the answer r of a call on a text of `size` bytes that refuses with the numbers of `list`
@@ -100,14 +100,16 @@ pub data Evaluates (form : Form) (s : List ℕ) (r : Evaluated) : Type 0 where
   valued : (e : ℕ) (v : Decimal) → r ≡ record { number = 0; place = e; bits = twosOf (wholeOf v) }
       → evaluated form s ≡ single.Evaluated.Read e v → Evaluates form s r
   unvalued : (n p : ℕ) → r ≡ record { number = n; place = p; bits = 0 }
-      → evaluated form s ≡ single.Evaluated.Refusal n p → Refusal (1 ∷ 2 ∷ 3 ∷ 11 ∷ 6 ∷ 7 ∷ 8 ∷ []) (length s) n p → Evaluates form s r
+      → evaluated form s ≡ single.Evaluated.Refusal n p → Refusal (1 ∷ 2 ∷ 3 ∷ 11 ∷ 6 ∷ 7 ∷ 8 ∷ []) (length s) n p
+      → Evaluates form s r
 
 -- a tag: 1 where it is in force, 0 where it is not
 abbrev pub TagSaid : List ℕ → List ℕ → ℕ → List ℕ → ℕ → Type 0
 TagSaid s t k tag n = ((inForce s t k tag ≡ Force.Yes) × (n ≡ 1)) ⊎ ((inForce s t k tag ≡ Force.Not) × (n ≡ 0))
 
--- a span is never refused: a part of the ledger, which is the span's text
+-- a span is never refused: a part of the ledger, which is the span's text, and empty, at 0, for a bad span
 pub record PartOf (s : List ℕ) (a e : ℕ) (r : Part) : Type 0 where
+  pub part : r ≡ partOf s a e
   pub within : r .start + r .length ≤ length s
   pub text : take (r .length) (drop (r .start) s) ≡ spanText s a e
 

@@ -74,7 +74,8 @@ abbrev pub NoTotals : List ℕ → ℕ → ℕ → ℕ → ℕ → Type 0
 NoTotals s y m n p =
     (plain s ≡ denied n p)
     ⊎ (((n ≡ 15) × (p ≡ 0) × (isMonth m ≡ false))
-    ⊎ ((n ≡ 6) × (rs : List Row) × (plain s ≡ accepted rs) × (counted (λ r. r .start) 0 (totalsOf s y m rs) ≡ Counted.Large p)))
+    ⊎ ((n ≡ 6) × (rs : List Row) × (plain s ≡ accepted rs)
+    × (counted (λ r. r .start) 0 (totalsOf s y m rs) ≡ Counted.Large p)))
 
 pub record Totals (s : List ℕ) (y m : ℕ) (t w v : List ℕ) (r : Reply) (t′ w′ v′ : List ℕ) : Type 0 where
   pub answer : NoWork s (need y m) (λ n. (length w < n) ⊎ (length v < n)) (t′ ≡ t) r
@@ -92,15 +93,20 @@ pub record Writes (s o w : List ℕ) (r : Reply) (o′ w′ : List ℕ) : Type 0
       (λ n p. plain s ≡ denied n p) (o′ ≡ o) r
   pub work : Space s rewrite.need r w w′
 
+-- a row stands there, an entry's or a detail's
+abbrev pub RowFound : List ℕ → Type 0
+RowFound r = (found r ≡ Found.Entry) ⊎ ((n : ℕ) × (found r ≡ Found.Detail n))
+
 -- one step of a reader at a place of the packet p, with a buffer b for the row and c for the text
 pub data Steps (p : List ℕ) (at : ℕ) (b c : List ℕ) (r : Handed) (b′ c′ : List ℕ) : Type 0 where
-  atEntry : found (drop at p) ≡ Found.Entry → r ≡ handedBy 0 (at + rowField) entryTag 0
+  atEntry : found (drop at p) ≡ Found.Entry → r ≡ handedBy 0 (at + rowField) entryTag 0 → width ≤ length b
       → b′ ≡ rowIn (drop at p) ++ drop width b → c′ ≡ c → Steps p at b c r b′ c′
   atDetail : (n : ℕ) → found (drop at p) ≡ Found.Detail n → r ≡ handedBy 0 (at + textPlace + n) detailTag n
+      → width ≤ length b → n ≤ length c
       → b′ ≡ rowIn (drop at p) ++ drop width b → c′ ≡ textIn n (drop at p) ++ drop n c → Steps p at b c r b′ c′
   atEnd : found (drop at p) ≡ Found.End → r ≡ handedBy 0 at 0 0 → b′ ≡ b → c′ ≡ c → Steps p at b c r b′ c′
   noBuffer : (n : ℕ) → r ≡ handedBy 9 0 0 n
-      → ((n ≡ width) × (length b < n)) ⊎ ((found (drop at p) ≡ Found.Detail n) × (length c < n))
+      → (RowFound (drop at p) × (n ≡ width) × (length b < n)) ⊎ ((found (drop at p) ≡ Found.Detail n) × (length c < n))
       → b′ ≡ b → c′ ≡ c → Steps p at b c r b′ c′
   badField : (n before : ℕ) → found (drop at p) ≡ Found.Bad n before → r ≡ handedBy n (at + before) 0 0
       → Refusal (19 ∷ 20 ∷ []) (length p) n (at + before)
