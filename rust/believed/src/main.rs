@@ -6,7 +6,7 @@
 //! and the ten longest. Then it names the definitions in `specs/` that neither a call's promise nor a statement
 //! reaches: such ones are steps, and stand in `specs/steps/`. Last it looks whether each name stands in the file that
 //! `docs/RULES.md` and `docs/LANGUAGE.md`, beside the folder, give for it. It fails where there is such a definition or
-//! name, and where a call cites a step.
+//! name, where a call cites a step, and where a call or statement that it counts from is not there.
 
 mod pages;
 mod source;
@@ -229,6 +229,23 @@ impl Sources {
         roots
     }
 
+    /// The calls and statements named above that are not there, or promise nothing: a count would leave them out unsaid.
+    fn absent(&self) -> Vec<String> {
+        let promises = |krate: &str, name: &str| {
+            let files = self.contracts.iter().filter(|file| file.krate == krate);
+            let mut contracts = files.flat_map(|file| &file.found);
+            contracts.any(|c| c.name == name && !c.ensures.is_empty())
+        };
+        let calls = DOCUMENT_01.iter().chain(DOCUMENT_02);
+        let calls = calls.filter(|(krate, name)| !promises(krate, name));
+        let calls = calls.map(|(krate, name)| format!("      {name} ({krate})\n"));
+        let demands = DEMANDS.iter();
+        let demands =
+            demands.filter(|(krate, module, name)| self.find(krate, module, name).is_none());
+        let demands = demands.map(|(krate, _, name)| format!("      {name} ({krate})\n"));
+        calls.chain(demands).collect()
+    }
+
     /// The public functions whose contract names a step, as crate and name; and how many public functions there are.
     fn citing_steps(&self) -> (Vec<(&str, &str)>, usize) {
         let mut citing = Vec::new();
@@ -267,7 +284,7 @@ impl Sources {
     /// The lines of the definitions among these, or of the declared types.
     fn lines(&self, numbers: &BTreeSet<usize>, types: bool) -> usize {
         let those = numbers.iter().map(|&n| &self.definitions[n]);
-        let those = those.filter(|d| (d.is_type()) == types);
+        let those = those.filter(|d| d.is_type() == types);
         those.map(|d| d.text.len()).sum()
     }
 }
@@ -296,7 +313,7 @@ fn told(sources: &Sources, what: &str, numbers: &BTreeSet<usize>) -> String {
     format!("{lines:5} {types:5}   {what}\n")
 }
 
-/// The whole report, and whether every definition in `specs/` is reached and no call cites a step.
+/// The whole report, and whether every definition in `specs/` is reached, no call cites a step and none is missing.
 fn report(sources: &Sources) -> (String, bool) {
     let first = sources.reached(sources.roots(|krate, name| DOCUMENT_01.contains(&(krate, name))));
     let listed = |call: (&str, &str)| DOCUMENT_01.contains(&call) || DOCUMENT_02.contains(&call);
@@ -361,7 +378,17 @@ fn report(sources: &Sources) -> (String, bool) {
         unused.len()
     );
     out += &unused.concat();
-    (out, unused.is_empty() && calls.is_empty())
+
+    let absent = sources.absent();
+    out += &format!(
+        "\nof the calls and statements, not there: {}\n",
+        absent.len()
+    );
+    out += &absent.concat();
+    (
+        out,
+        unused.is_empty() && calls.is_empty() && absent.is_empty(),
+    )
 }
 
 /// The names that the pages look for in the wrong file, as a report, and how many there are.
