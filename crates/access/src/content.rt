@@ -7,7 +7,7 @@ ghost use Rattle.access.specs.steps.Measuring.{taken, slash, measured_of};
 use crate::written::Written;
 use text::bytes;
 
-#[derive(Drop)]
+#[derive(Clone, Copy)]
 enum Measured {
     Bytes(usize),
     Bad,

@@ -10,14 +10,14 @@ use text::permitted::SIZE;
 use text::{bytes, permitted, refusal};
 
 // Where it stops, with its value; or a refusal's number and place.
-#[derive(Drop)]
+#[derive(Clone, Copy)]
 pub enum Evaluated {
     Read(usize, Decimal),
     Refusal(usize, usize),
 }
 
 // A text before any expression in it is read: its bytes may all stand there, or a refusal's number and place.
-#[derive(Drop)]
+#[derive(Clone, Copy)]
 enum Judged {
     Permitted,
     Refusal(usize, usize),

@@ -8,13 +8,13 @@ use amount::kind;
 use row::table;
 use row::table::{Row, WIDTH};
 
-#[derive(Drop)]
+#[derive(Clone, Copy)]
 pub enum Found {
     Row(Row),
     Refusal(usize),
 }
 
-#[derive(Drop)]
+#[derive(Clone, Copy)]
 pub enum Force {
     Yes,
     Not,

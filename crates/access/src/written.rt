@@ -1,5 +1,5 @@
 // The answer of a call that writes bytes: so many were written; or a refusal's number and the need.
-#[derive(Drop)]
+#[derive(Clone, Copy)]
 pub enum Written {
     Bytes(usize),
     Refusal(usize, usize),

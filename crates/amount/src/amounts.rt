@@ -11,7 +11,7 @@ use text::{Read, currency, line, refusal};
 
 // The content of a price directive: where it ends, the row of its currency and that of its amount; or a refusal with
 // its place.
-#[derive(Drop)]
+#[derive(Clone, Copy)]
 pub enum Priced {
     Read(usize, Detail, Detail),
     Hard(usize, usize),

@@ -6,7 +6,7 @@ ghost use Rattle.amount.specs.steps.Answers.{no_row};
 use decimal::{Decimal, Value};
 
 // Its places count from the entry's start; kind 0 is no row.
-#[derive(Drop)]
+#[derive(Clone, Copy)]
 pub struct Detail {
     pub kind: usize,
     pub start: usize,
@@ -17,7 +17,7 @@ pub struct Detail {
 }
 
 // One row or none, which ends at a place; a miss; or a refusal with its place.
-#[derive(Drop)]
+#[derive(Clone, Copy)]
 pub enum One {
     Read(usize, Detail),
     Miss,

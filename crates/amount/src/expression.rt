@@ -10,7 +10,7 @@ use decimal::{Decimal, Form, Value};
 use text::run::Class;
 use text::{bytes, run};
 
-#[derive(Drop)]
+#[derive(Clone, Copy)]
 pub enum Answer {
     // Where it ends, with the value or its refusal.
     Read(usize, Value),

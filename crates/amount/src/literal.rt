@@ -11,7 +11,7 @@ use text::{bytes, run};
 
 // The digits before a point: where they end, their number, which stops growing once it is too large, and whether there
 // are any.
-#[derive(Drop)]
+#[derive(Clone, Copy)]
 struct Whole {
     end: usize,
     size: u64,
@@ -20,7 +20,7 @@ struct Whole {
 
 // The digits before and after a point: where they end, the number of those that are kept, how many of these stand after
 // the point, six at most, whether there are any, and whether one that is not kept is not 0.
-#[derive(Drop)]
+#[derive(Clone, Copy)]
 struct Fraction {
     end: usize,
     size: u64,

@@ -17,7 +17,7 @@ const WRONG_FIELD: usize = 20;
 
 // What stands at the front of the bytes left: a row of an entry; a row of a detail with a text of so many bytes;
 // nothing; or a refusal's number, and how many bytes stand before its field.
-#[derive(Drop)]
+#[derive(Clone, Copy)]
 pub enum Found {
     Entry,
     Detail(usize),
@@ -27,7 +27,7 @@ pub enum Found {
 
 // What a reader answers: the place behind the row, or behind the row and its text of so many bytes; or a refusal's
 // number, place and need.
-#[derive(Drop)]
+#[derive(Clone, Copy)]
 pub enum Step {
     Entry(usize),
     Detail(usize, usize),

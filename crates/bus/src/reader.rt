@@ -5,7 +5,7 @@ ghost use Rattle.bus.specs.Reading.{Hands, place_after};
 use crate::packet;
 use crate::packet::Step;
 
-#[derive(Drop)]
+#[derive(Clone, Copy)]
 pub struct Reader<'a> {
     pub packet: &'a [u8],
     pub at: usize,

@@ -19,7 +19,7 @@ const NOT_VALID: usize = 10;
 
 const TOO_LONG: usize = 18;
 
-#[derive(Drop)]
+#[derive(Clone, Copy)]
 enum Measured {
     Bytes(usize),
     Fault(usize),

@@ -1,3 +1,5 @@
 // What directives hold after their keyword (rule 10).
+#![tactic(auto)]
+
 pub mod content;
 pub mod open;

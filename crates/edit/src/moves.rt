@@ -12,7 +12,7 @@ use row::table::{FIELD, Row, WIDTH};
 use row::{table, writer};
 
 // So many bytes and lines on.
-#[derive(Drop)]
+#[derive(Clone, Copy)]
 pub struct By {
     pub places: usize,
     pub lines: usize,

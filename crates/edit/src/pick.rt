@@ -10,7 +10,7 @@ use row::table;
 use row::table::{Row, WIDTH};
 
 // Rows that start before the bound, or those that start there and later, which are moved.
-#[derive(Drop)]
+#[derive(Clone, Copy)]
 pub struct Pick {
     pub behind: bool,
     pub bound: usize,

@@ -19,7 +19,7 @@ use text::permitted::SIZE;
 
 // What the answer is made of: the picked ones of the given rows before the block, the rows of the new bytes, at the
 // block's place and with so many line feeds before it, and the picked ones of the rest behind it.
-#[derive(Drop)]
+#[derive(Clone, Copy)]
 struct Plan {
     before: Pick,
     given: usize,
@@ -30,7 +30,7 @@ struct Plan {
 }
 
 // How many rows each part has.
-#[derive(Drop)]
+#[derive(Clone, Copy)]
 struct Counts {
     before: usize,
     new: usize,

@@ -1,5 +1,7 @@
 // The second engine (M-113): rule 8 with what is pending in a table of fixed size. One loop, and no reader calls
 // itself.
+#![tactic(auto)]
+
 ghost use Rattle.std.specs.Prelude.{◌≡◌};
 ghost use Rattle.amount.specs.Expression.{combined, expression_in};
 ghost use Rattle.amount.specs.steps.Answers.{answer_of};
@@ -12,14 +14,14 @@ use text::run::Class;
 use text::{bytes, run};
 
 // A value with the operator after it, whose other operand is being read; or none.
-#[derive(Drop)]
+#[derive(Clone, Copy)]
 enum Pending {
     Nothing,
     With(u8, Value),
 }
 
 // What is pending in an expression: whether it is a negation, a sum, a product, and where the last operand ends.
-#[derive(Drop)]
+#[derive(Clone, Copy)]
 struct Frame {
     negated: bool,
     sum: Pending,
@@ -28,7 +30,7 @@ struct Frame {
 }
 
 // What comes next.
-#[derive(Drop)]
+#[derive(Clone, Copy)]
 enum Next {
     // An expression starts at a place.
     Start(usize),

@@ -12,14 +12,14 @@ use text::date::Dated;
 use text::{Read, date, line, refusal, word};
 
 // A keyword: its entry's kind, and where it ends.
-#[derive(Drop)]
+#[derive(Clone, Copy)]
 pub enum Keyword {
     Read(usize, usize),
     Miss,
 }
 
 // A form of an entry: its kind, its date or 0, where it ends, and what was written.
-#[derive(Drop)]
+#[derive(Clone, Copy)]
 pub enum Formed {
     Read(usize, usize, usize, Out),
     Miss,

@@ -20,7 +20,7 @@ use text::run::Class;
 use text::{Read, line, refusal, run, string, tag, word};
 
 // An entry of a kind, of so many bytes and rows; or a refusal's number and place.
-#[derive(Drop)]
+#[derive(Clone, Copy)]
 pub enum Entry {
     Read(usize, usize, usize),
     Refused(usize, usize),

@@ -12,7 +12,7 @@ use row::lines;
 use row::table::WIDTH;
 use text::permitted::SIZE;
 
-#[derive(Drop)]
+#[derive(Clone, Copy)]
 pub enum Answer {
     Rows(usize),
     Refusal {

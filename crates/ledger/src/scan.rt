@@ -11,14 +11,14 @@ use row::table;
 use text::permitted;
 
 // Plain reading, or strict, which refuses lost lines and flags too.
-#[derive(Drop)]
+#[derive(Clone, Copy)]
 pub enum Profile {
     Plain,
     Strict,
 }
 
 // What is found: so many rows, or a refusal's number and place.
-#[derive(Drop)]
+#[derive(Clone, Copy)]
 pub enum Scan {
     Whole(usize),
     Stopped(usize, usize),

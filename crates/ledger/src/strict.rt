@@ -18,7 +18,7 @@ pub const FLAG: usize = 17;
 const DATE: usize = 10;
 
 // A refusal's number and its place from the entry's start; number 0 is none.
-#[derive(Drop)]
+#[derive(Clone, Copy)]
 pub struct Objection {
     pub number: usize,
     pub place: usize,

@@ -1,5 +1,7 @@
 // What the site box calls, on byte slices and numbers: document 01's calls, and those that document 02 adds. Nothing is
 // asked of the caller.
+#![tactic(auto)]
+
 pub mod reply;
 
 ghost use Rattle.ledger.specs.Plain.{plain};

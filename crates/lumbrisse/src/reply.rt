@@ -10,7 +10,7 @@ use ledger::read::Answer;
 
 // Number 0: accepted. What an answer has not is 0.
 #[repr(C)]
-#[derive(Drop)]
+#[derive(Clone, Copy)]
 pub struct Reply {
     pub number: usize,
     pub place: usize,
@@ -19,7 +19,7 @@ pub struct Reply {
 
 // Accepted: the place where the expression stops, and its value in two's complement.
 #[repr(C)]
-#[derive(Drop)]
+#[derive(Clone, Copy)]
 pub struct Evaluated {
     pub number: usize,
     pub place: usize,
@@ -36,7 +36,7 @@ const NOTHING: usize = 0;
 // One step of a packet's reader. Accepted: the place behind what was handed out, an entry's row, a detail's row with a
 // text of `count` bytes, or, at the packet's end, nothing.
 #[repr(C)]
-#[derive(Drop)]
+#[derive(Clone, Copy)]
 pub struct Handed {
     pub number: usize,
     pub place: usize,
@@ -46,7 +46,7 @@ pub struct Handed {
 
 // A part of the caller's own ledger.
 #[repr(C)]
-#[derive(Drop)]
+#[derive(Clone, Copy)]
 pub struct Part {
     pub start: usize,
     pub length: usize,

@@ -11,7 +11,7 @@ use access::span;
 use row::table;
 use row::table::Row;
 
-#[derive(Drop)]
+#[derive(Clone, Copy)]
 pub enum Order {
     Before,
     Same,

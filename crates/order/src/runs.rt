@@ -13,7 +13,7 @@ use crate::{compare, sum};
 use decimal::Value;
 
 // Up to which record a run goes, and the sum of its values.
-#[derive(Drop)]
+#[derive(Clone, Copy)]
 pub struct Run {
     pub end: usize,
     pub sum: Value,
@@ -59,7 +59,7 @@ pub fn run_at(s: &[u8], t: &[u8], i: usize) -> Run
 }
 
 // So many items; or the start of the first item whose sum is too large.
-#[derive(Drop)]
+#[derive(Clone, Copy)]
 pub enum Counted {
     Items(usize),
     Large(usize),

@@ -11,7 +11,7 @@ use crate::record::RECORD;
 use decimal::Value;
 
 // A whole number in two words. The upper one starts at the number of records, so that it never falls below zero.
-#[derive(Drop)]
+#[derive(Clone, Copy)]
 struct Wide {
     high: u64,
     low: u64,

@@ -62,7 +62,7 @@ pub fn optional_price(s: &[u8], at: usize, base: usize, table: &mut [u8], out: O
 }
 
 // What stands in a cost's braces: the end, the date or 0, the amount or no row.
-#[derive(Drop)]
+#[derive(Clone, Copy)]
 pub enum Lot {
     Read(usize, usize, Detail),
     Miss,

@@ -1,3 +1,5 @@
 // Recovering reading.
+#![tactic(auto)]
+
 pub mod block;
 pub mod recover;

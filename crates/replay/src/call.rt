@@ -40,7 +40,7 @@ pub const STEP: usize = 16;
 pub const WRITE: usize = 17;
 
 // Number 0: accepted. What an answer has not is 0.
-#[derive(Drop)]
+#[derive(Clone, Copy)]
 pub struct Reply {
     pub number: usize,
     pub place: usize,
@@ -51,7 +51,7 @@ pub struct Reply {
     pub tag: usize,
 }
 
-#[derive(Drop)]
+#[derive(Clone, Copy)]
 pub enum Outcome {
     Answered(Reply),
     Unknown,

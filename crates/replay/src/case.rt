@@ -13,7 +13,7 @@ pub const HEAD: usize = 56;
 // A case's bytes at the most, its header among them.
 pub const MOST: usize = 65_536;
 
-#[derive(Drop)]
+#[derive(Clone, Copy)]
 pub struct Case {
     pub call: usize,
     // The numbers that it takes.

@@ -9,7 +9,7 @@ use crate::case::Case;
 use access::span;
 
 // Whether each part is as it must be.
-#[derive(Drop)]
+#[derive(Clone, Copy)]
 pub struct Alike {
     pub number: bool,
     pub place: bool,
@@ -20,7 +20,7 @@ pub struct Alike {
     pub buffer: bool,
 }
 
-#[derive(Drop)]
+#[derive(Clone, Copy)]
 pub enum Verdict {
     Compared(Alike),
     Unknown,

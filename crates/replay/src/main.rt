@@ -1,6 +1,8 @@
 // Replays a case file from standard input: makes each call, and compares the answer and every byte of the lent buffer.
 // A case whose header says more than 64 KiB, and one inside which the file ends, has a line of its own and differs.
 // Reading ends there: nothing says where the next case would start.
+#![tactic(auto)]
+
 mod afresh;
 mod call;
 mod case;

@@ -3,7 +3,7 @@ ghost use Rattle.std.specs.Prelude.{◌≡◌, ◌≤◌};
 ghost use Rattle.replay.specs.Counts.{ends, breaks, differing};
 
 // What a case came to; `End` is no case, and after `Broken` no more is read.
-#[derive(Drop)]
+#[derive(Clone, Copy)]
 pub enum Step {
     End,
     Broken,
@@ -11,7 +11,7 @@ pub enum Step {
     Differs,
 }
 
-#[derive(Drop)]
+#[derive(Clone, Copy)]
 pub struct Tally {
     pub cases: u64,
     pub differing: u64,

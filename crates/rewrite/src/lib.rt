@@ -1,4 +1,6 @@
 // A ledger written afresh (M-103).
+#![tactic(auto)]
+
 mod detail;
 mod head;
 mod number;

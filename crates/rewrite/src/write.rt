@@ -15,7 +15,7 @@ use row::work;
 const TOO_SHORT: usize = 9;
 
 // So many bytes were written; or a refusal.
-#[derive(Drop)]
+#[derive(Clone, Copy)]
 pub enum Answer {
     Bytes(usize),
     Refusal {

@@ -1,4 +1,6 @@
 // The row table, and the row writer.
+#![tactic(auto)]
+
 mod field;
 pub mod lines;
 pub mod table;

@@ -12,7 +12,7 @@ use text::{bytes, run};
 
 // The line in which the last row started: where it starts, where its line feed or the end of the text stands, and its
 // number.
-#[derive(Drop)]
+#[derive(Clone, Copy)]
 struct Line {
     from: usize,
     stop: usize,

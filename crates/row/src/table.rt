@@ -6,7 +6,7 @@ ghost use Rattle.row.specs.steps.Pouring.{place_of, pour, pour_at};
 
 use crate::field;
 
-#[derive(Drop)]
+#[derive(Clone, Copy)]
 pub struct Row {
     pub kind: usize,
     pub start: usize,

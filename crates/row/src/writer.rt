@@ -15,7 +15,7 @@ use decimal::Value;
 use text::bytes;
 
 // So many rows are there; one plus the number of the first refused value, 0 for none, and its place.
-#[derive(Drop)]
+#[derive(Clone, Copy)]
 pub struct Out {
     pub rows: usize,
     pub bad: usize,
@@ -23,7 +23,7 @@ pub struct Out {
 }
 
 // What a reader that writes answers.
-#[derive(Drop)]
+#[derive(Clone, Copy)]
 pub enum Ran {
     To(usize, Out),
     Miss,

@@ -13,7 +13,7 @@ const WINDOW: usize = 16;
 const NONE: u8 = 16;
 
 // An account's reading. After a first part, missing the second is hard.
-#[derive(Drop)]
+#[derive(Clone, Copy)]
 pub enum AccountRead {
     To(usize),
     Miss,

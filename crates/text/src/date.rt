@@ -6,7 +6,7 @@ ghost use Rattle.text.specs.Dates.{like_shape, date_shape, two, date_in, date_at
 use crate::bytes;
 
 // A date that was read: where it ends, and year times 10,000 plus month times 100 plus day.
-#[derive(Drop)]
+#[derive(Clone, Copy)]
 pub enum Dated {
     On(usize, u32),
     Miss,

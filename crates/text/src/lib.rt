@@ -1,4 +1,6 @@
 // The tokens of document 01, read at a place of a text (rules 2, 3, 5, 6, 7, 14 and the words).
+#![tactic(auto)]
+
 pub mod account;
 pub mod bytes;
 pub mod currency;
@@ -13,7 +15,7 @@ pub mod window;
 pub mod word;
 
 // What a token's reader answers: it read up to a place, or it missed.
-#[derive(Drop)]
+#[derive(Clone, Copy)]
 pub enum Read {
     To(usize),
     Miss,

@@ -6,7 +6,7 @@ ghost use Rattle.text.specs.steps.Classes.{in_class};
 use crate::bytes;
 
 // The classes of which a rule takes the longest run. Those with more kinds of bytes are in `window`.
-#[derive(Drop)]
+#[derive(Clone, Copy)]
 pub enum Class {
     Blank,
     Space,

@@ -18,7 +18,7 @@ use order::runs::Counted;
 use order::{runs, sort};
 use row::work;
 
-#[derive(Drop)]
+#[derive(Clone, Copy)]
 pub enum Answer {
     Items(usize),
     Refusal {

@@ -1,2 +1,4 @@
 // Transactions (rule 11).
+#![tactic(auto)]
+
 pub mod transaction;

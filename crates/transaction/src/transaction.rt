@@ -56,7 +56,7 @@ fn opening_at(s: &[u8], at: usize, base: usize, table: &mut [u8], out: Out) -> R
 }
 
 // A gap and a string with its quotes: where the string starts and ends.
-#[derive(Drop)]
+#[derive(Clone, Copy)]
 pub enum GapString {
     Read(usize, usize),
     Miss,

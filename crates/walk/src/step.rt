@@ -30,7 +30,7 @@ const DATE: usize = 10;
 const TWO_ROWS: usize = 2 * WIDTH;
 
 // Where a walk stands: at an entry, or inside the body of the transaction that starts at `from`.
-#[derive(Drop)]
+#[derive(Clone, Copy)]
 pub struct Cursor {
     pub at: usize,
     pub from: usize,
@@ -38,7 +38,7 @@ pub struct Cursor {
 }
 
 // A posting and where it goes on; where it goes on; the end.
-#[derive(Drop)]
+#[derive(Clone, Copy)]
 pub enum Turn {
     Found(Row, Cursor),
     On(Cursor),
