@@ -1,0 +1,7 @@
+use mathlib.Core.Path.{refl}
+use Rattle.text.specs.Bytes.{is_digit}
+use Rattle.text.proofs.bytes.is_digit.Goals as goal
+
+pub returns : goal.returns
+unfolding is_digit
+returns c = refl

@@ -1,0 +1,7 @@
+use mathlib.Core.Path.{refl}
+use Rattle.text.specs.Bytes.{is_space}
+use Rattle.text.proofs.bytes.is_space.Goals as goal
+
+pub returns : goal.returns
+unfolding is_space
+returns c = refl
