@@ -22,7 +22,7 @@ KEYWORDS = {"let", "in", "data", "record", "module", "use", "pub", "where", "abb
 
 def snake(name):
     """The name in snake case."""
-    name = re.sub(r"(?<=[a-z0-9])([A-Z])(?=[a-z0-9]|$|[-_'])", lambda m: "_" + m.group(1).lower(), name)
+    name = re.sub(r"(?<=[a-z0-9])([A-Z]+)(?=[a-z0-9]|$|[-_'])", lambda m: "_" + m.group(1).lower(), name)
     return name.replace("-", "_")
 
 
@@ -36,7 +36,7 @@ def declared(text):
     for line in text.split("\n"):
         line = re.sub(r"(^|\s)--(\s.*)?$", "", line)
         found = SIGNATURE.match(line)
-        if found and not re.match(r"\s*(let|in|elim|\||λ)\b", line):
+        if found and not re.match(r"\s*(let|in|elim|\||λ)(?![\w-])", line):
             yield from (n for n in found.group(1).split() if n not in KEYWORDS)
         found = RULESET.match(line)
         if found:
@@ -61,7 +61,8 @@ def main(words):
     for path, text in texts.items():
         # behind a dot stands a field, or what Rattle makes of a function's name
         seen |= set(re.findall(r"(?<![^\s(){};,@\"«»\[\]\\`:|])[^\s(){}.;,@\"«»\[\]\\`:|]+", bare(text)))
-        if path.name not in ("Proof.antt", "Answers.antt", "Invariants.antt"):
+        # what a function's proof file declares are its goals
+        if "specs" in path.parts or path.name not in ("Proof.antt", "Answers.antt", "Invariants.antt"):
             own |= {n for n in declared(text) if of_kind(n)}
         for module, names in USE.findall(text):
             if not re.match(r"Rattle\.(?!std\b)", module):

@@ -16,7 +16,7 @@ use Rattle.text.specs.Refusals.{deep_number, required_number}
 use Rattle.amount.specs.Details.{Rows, span, valued}
 use Rattle.amount.specs.Expression.{expression}
 use Rattle.amount.specs.Amounts.{amount, hard_currency, hard_amount, price_of}
-use Rattle.amount.specs.steps.Answers.{answer_of, one_of, amountEnd, pricedFrom, pair_of}
+use Rattle.amount.specs.steps.Answers.{answer_of, one_of, amount_end, priced_from, pair_of}
 use Rattle.amount.specs.declared.amounts.Priced.{Priced}
 use Rattle.amount.specs.declared.detail.Detail.{Detail}
 use Rattle.amount.specs.declared.detail.One.{One}
@@ -27,17 +27,17 @@ use Rattle.amount.proofs.Refusals.{Three, expression_three}
 -- ---- after the expression: g is the gap's answer, u the currency's
 
 module _ (k : ℕ) (s : List ℕ) (at e : ℕ) (v : Value) (g : Read) (p : g ≡ gap_at s e) where
-  pub end_gap : g ≡ Read.Miss → One.Hard required_number e ≡ one_of (amountEnd k s at e v)
-  unfolding amountEnd hard_gap gap token must ◌and◌ one_of
+  pub end_gap : g ≡ Read.Miss → One.Hard required_number e ≡ one_of (amount_end k s at e v)
+  unfolding amount_end hard_gap gap token must ◌and◌ one_of
   end_gap q = rw (← p, q)
 
   module _ (c : ℕ) (q : g ≡ Read.To c) (u : Read) (w : u ≡ currency_at s c) where
-    pub end_read : (d : ℕ) → u ≡ Read.To d → One.Read d (valued k at e c d v) ≡ one_of (amountEnd k s at e v)
-    unfolding amountEnd hard_gap gap currency token must ◌and◌ more one_of
+    pub end_read : (d : ℕ) → u ≡ Read.To d → One.Read d (valued k at e c d v) ≡ one_of (amount_end k s at e v)
+    unfolding amount_end hard_gap gap currency token must ◌and◌ more one_of
     end_read d n = rw (← p, q, ← w, n)
 
-    pub end_unit : u ≡ Read.Miss → One.Hard required_number c ≡ one_of (amountEnd k s at e v)
-    unfolding amountEnd hard_gap gap currency token must ◌and◌ more one_of
+    pub end_unit : u ≡ Read.Miss → One.Hard required_number c ≡ one_of (amount_end k s at e v)
+    unfolding amount_end hard_gap gap currency token must ◌and◌ more one_of
     end_unit n = rw (← p, q, ← w, n)
 
 -- ---- a required amount: x is the expression's answer
@@ -46,8 +46,8 @@ pub deep_three : (a : Ans Value) (x : Answer) (i : ℕ) → Three a → x ≡ an
 deep_three a x i T p q = let h = was_deep a x i p q in h.1 ∙ ap (λ k. Hard k i) (subst Three h.1 T)
 
 module _ (k : ℕ) (s : List ℕ) (at : ℕ) (x : Answer) (p : x ≡ answer_of (expression s at)) where
-  pub required_read : (e : ℕ) (v : Value) (o : One) → x ≡ Answer.Read e v → o ≡ one_of (amountEnd k s at e v) → o ≡ one_of (hard_amount k s at)
-  unfolding hard_amount amountEnd must ◌then◌
+  pub required_read : (e : ℕ) (v : Value) (o : One) → x ≡ Answer.Read e v → o ≡ one_of (amount_end k s at e v) → o ≡ one_of (hard_amount k s at)
+  unfolding hard_amount amount_end must ◌then◌
   required_read e v o q w = rw (was_read (expression s at) x e v p q) w
 
   pub required_miss : x ≡ Answer.Miss → One.Hard required_number at ≡ one_of (hard_amount k s at)
@@ -126,25 +126,25 @@ module _ (k : ℕ) (s : List ℕ) (at : ℕ) (a : One) (p : a ≡ one_of (hard_a
 -- ---- prices: g is the gap's answer, a the amount's, u the currency's
 
 module _ (s : List ℕ) (at e : ℕ) (g : Read) (p : g ≡ gap_at s e) where
-  pub priced_gap : g ≡ Read.Miss → Priced.Hard required_number e ≡ pair_of (pricedFrom s at e)
-  unfolding pricedFrom hard_gap gap token must ◌and◌ more pair_of
+  pub priced_gap : g ≡ Read.Miss → Priced.Hard required_number e ≡ pair_of (priced_from s at e)
+  unfolding priced_from hard_gap gap token must ◌and◌ more pair_of
   priced_gap q = rw (← p, q)
 
   module _ (j : ℕ) (q : g ≡ Read.To j) (a : One) (w : a ≡ one_of (hard_amount 26 s j)) where
-    pub priced_read : (f : ℕ) (d : Detail) → a ≡ One.Read f d → Priced.Read f (span 31 at e) d ≡ pair_of (pricedFrom s at e)
-    unfolding pricedFrom hard_gap gap token must ◌and◌ more pair_of
+    pub priced_read : (f : ℕ) (d : Detail) → a ≡ One.Read f d → Priced.Read f (span 31 at e) d ≡ pair_of (priced_from s at e)
+    unfolding priced_from hard_gap gap token must ◌and◌ more pair_of
     priced_read f d n = rw (← p, q, (was_row a f d (both_amounts 26 s j) w n).0)
 
-    pub priced_none : a ≡ One.Miss → Priced.Hard required_number j ≡ pair_of (pricedFrom s at e)
+    pub priced_none : a ≡ One.Miss → Priced.Hard required_number j ≡ pair_of (priced_from s at e)
     priced_none n = absurd (was_none a (both_amounts 26 s j) w n)
 
-    pub priced_hard : (n i : ℕ) → a ≡ One.Hard n i → Priced.Hard n i ≡ pair_of (pricedFrom s at e)
-    unfolding pricedFrom hard_gap gap token must ◌and◌ more pair_of
+    pub priced_hard : (n i : ℕ) → a ≡ One.Hard n i → Priced.Hard n i ≡ pair_of (priced_from s at e)
+    unfolding priced_from hard_gap gap token must ◌and◌ more pair_of
     priced_hard n i m = rw (← p, q, (was_hard a n i (both_amounts 26 s j) w m).0)
 
 module _ (s : List ℕ) (at : ℕ) (u : Read) (p : u ≡ currency_at s at) where
-  pub price_read : (e : ℕ) (o : Priced) → u ≡ Read.To e → o ≡ pair_of (pricedFrom s at e) → o ≡ pair_of (price_of s at)
-  unfolding price_of pricedFrom hard_currency currency token must ◌and◌ more
+  pub price_read : (e : ℕ) (o : Priced) → u ≡ Read.To e → o ≡ pair_of (priced_from s at e) → o ≡ pair_of (price_of s at)
+  unfolding price_of priced_from hard_currency currency token must ◌and◌ more
   price_read e o q w = rw (← p, q) w
 
   pub price_miss : u ≡ Read.Miss → Priced.Hard required_number at ≡ pair_of (price_of s at)

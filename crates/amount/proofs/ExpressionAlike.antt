@@ -105,9 +105,9 @@ module _ {Q : Type 0} {s z : List ℕ} {K P : ℕ → ℕ → Type 0} (L : Share
         rw (byte_same L S) (if_alike (eqb (get_or s i 0) 45) _ _
         (λ e. then_alike _ _ (E _ _ (after (λ c. eqb c 45) refl S e)) (λ a b v w T t. both_to a b _ _ T (λ k. rw (t k)))))
 
-    in-group-alike : Readers (in_group calc g s) (in_group calc h z)
+    in_group_alike_lem : Readers (in_group calc g s) (in_group calc h z)
     unfolding in_group
-    in-group-alike i j S = else_alike (negation_alike i j S) (sums_alike i j S)
+    in_group_alike_lem i j S = else_alike (negation_alike i j S) (sums_alike i j S)
 
   closed_alike : (i j : ℕ) (v w : Value) → K i j → (Q → v ≡ w) → Alike Q K (closed s i v) (closed z j w)
   unfolding closed
@@ -120,10 +120,10 @@ module _ {Q : Type 0} {s z : List ℕ} {K P : ℕ → ℕ → Type 0} (L : Share
   group_alike calc zero i j S = rw (byte_same L S) (if_alike (eqb (get_or s i 0) 40) _ _ (λ _. both_hard deep_number i j (told L S)))
   group_alike calc (suc n) i j S =
       rw (byte_same L S) (if_alike (eqb (get_or s i 0) 40) _ _
-      (λ e. then_alike _ _ (in-group-alike calc (group calc n s) (group calc n z) (group_alike calc n) (group_reach s calc n) (group_reach z calc n) _ _ (after (λ c. eqb c 40) refl S e)) closed_alike))
+      (λ e. then_alike _ _ (in_group_alike_lem calc (group calc n s) (group calc n z) (group_alike calc n) (group_reach s calc n) (group_reach z calc n) _ _ (after (λ c. eqb c 40) refl S e)) closed_alike))
 
   pub expression_alike : {i j : ℕ} → K i j → Alike Q K (expression s i) (expression z j)
   unfolding expression expression_in within
   expression_alike {i} {j} S =
       let c = combined Rounding in
-      in-group-alike c (group c groups s) (group c groups z) (group_alike c groups) (group_reach s c groups) (group_reach z c groups) i j S
+      in_group_alike_lem c (group c groups s) (group c groups z) (group_alike c groups) (group_reach s c groups) (group_reach z c groups) i j S

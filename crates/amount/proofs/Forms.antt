@@ -16,7 +16,7 @@ use Rattle.text.specs.Run.{blanks}
 use Rattle.text.specs.Answer.{Ans, To, Miss, Hard, ◌then◌, ◌else◌}
 use Rattle.text.proofs.Steps.{byte_within, such_within}
 use Rattle.amount.specs.Expression.{Arithmetic, negated_value, is_plus, is_times, goes_on, atom, products, negation, in_group, closed, group, within}
-use Rattle.amount.specs.steps.Answers.{answer_of, operatorOf, operand_of, negatedAnswer, closedAnswer}
+use Rattle.amount.specs.steps.Answers.{answer_of, operator_of, operand_of, negated_answer, closed_answer}
 use Rattle.amount.specs.declared.expression.Answer.{Answer}
 
 -- ---- what the arms of a match tell
@@ -120,17 +120,17 @@ module _ (calc : Arithmetic) (op : ℕ → Bool) (x : ℕ → Ans Value) (s : Li
 
 -- ---- groups and negations: b is the byte at the place
 
-closed_answer : (s : List ℕ) (a : Ans Value) → closedAnswer s (answer_of a) ≡ answer_of (a then closed s)
-unfolding closedAnswer answer_of ◌then◌
-closed_answer s (To e v) = refl
-closed_answer s Miss = refl
-closed_answer s (Hard k i) = refl
+closed_answer_lem : (s : List ℕ) (a : Ans Value) → closed_answer s (answer_of a) ≡ answer_of (a then closed s)
+unfolding closed_answer answer_of ◌then◌
+closed_answer_lem s (To e v) = refl
+closed_answer_lem s Miss = refl
+closed_answer_lem s (Hard k i) = refl
 
-negated_answer : (a : Ans Value) → negatedAnswer (answer_of a) ≡ answer_of (a then λ e v. To e (negated_value v))
-unfolding negatedAnswer answer_of ◌then◌
-negated_answer (To e v) = refl
-negated_answer Miss = refl
-negated_answer (Hard k i) = refl
+negated_answer_lem : (a : Ans Value) → negated_answer (answer_of a) ≡ answer_of (a then λ e v. To e (negated_value v))
+unfolding negated_answer answer_of ◌then◌
+negated_answer_lem (To e v) = refl
+negated_answer_lem Miss = refl
+negated_answer_lem (Hard k i) = refl
 
 module _ (s : List ℕ) (at b : ℕ) (p : b ≡ get_or s at 0) where
   pub group_misses : (calc : Arithmetic) (n : ℕ) → (b ≡ 40 → ⊥) → group calc n s at ≡ Miss
@@ -148,56 +148,56 @@ module _ (s : List ℕ) (at b : ℕ) (p : b ≡ get_or s at 0) where
   deep_group calc (suc n) f z = absurd (omega arith)
 
   -- r is the answer of what stands inside
-  pub open_group : (calc : Arithmetic) (n i : ℕ) (r o : Answer) → b ≡ 40 → (n ≡ 0 → ⊥) → i ≡ blanks s (at + 1) → r ≡ answer_of (within calc (n - 1) s i) → o ≡ closedAnswer s r → o ≡ answer_of (group calc n s at)
+  pub open_group : (calc : Arithmetic) (n i : ℕ) (r o : Answer) → b ≡ 40 → (n ≡ 0 → ⊥) → i ≡ blanks s (at + 1) → r ≡ answer_of (within calc (n - 1) s i) → o ≡ closed_answer s r → o ≡ answer_of (group calc n s at)
   unfolding group within
   open_group calc zero i r o f z q u w = absurd (z refl)
-  open_group calc (suc n) i r o f z q u w = rw (← p, f, ← q, w, u, sub-one (suc n)) (closed_answer s (in_group calc (group calc n s) s i))
+  open_group calc (suc n) i r o f z q u w = rw (← p, f, ← q, w, u, sub-one (suc n)) (closed_answer_lem s (in_group calc (group calc n s) s i))
 
   pub no_negation : (g : ℕ → Ans Value) → (b ≡ 45 → ⊥) → Answer.Miss ≡ answer_of (negation g s at)
   unfolding negation answer_of
   no_negation g f = rw (← p, ne_eqb b 45 f)
 
-  pub negation_of : (g : ℕ → Ans Value) (i : ℕ) (r o : Answer) → b ≡ 45 → i ≡ blanks s (at + 1) → r ≡ answer_of (g i) → o ≡ negatedAnswer r → o ≡ answer_of (negation g s at)
+  pub negation_of : (g : ℕ → Ans Value) (i : ℕ) (r o : Answer) → b ≡ 45 → i ≡ blanks s (at + 1) → r ≡ answer_of (g i) → o ≡ negated_answer r → o ≡ answer_of (negation g s at)
   unfolding negation
-  negation_of g i r o f q u w = rw (← p, f, ← q, w, u) (negated_answer (g i))
+  negation_of g i r o f q u w = rw (← p, f, ← q, w, u) (negated_answer_lem (g i))
 
 -- ---- the answers of `closing` and `negating`, by the arms of their match
 
 module _ (s : List ℕ) (r : Answer) where
   module _ (e i b : ℕ) (v : Value) (q : r ≡ Answer.Read e v) (p : i ≡ blanks s e) (u : b ≡ get_or s i 0) where
-    pub closing_read : b ≡ 41 → Answer.Read (i + 1) v ≡ closedAnswer s r
-    unfolding closedAnswer closed answer_of
+    pub closing_read : b ≡ 41 → Answer.Read (i + 1) v ≡ closed_answer s r
+    unfolding closed_answer closed answer_of
     closing_read f = rw (q, ← p, ← u, f)
 
-    pub closing_ends : (b ≡ 41 → ⊥) → Answer.Miss ≡ closedAnswer s r
-    unfolding closedAnswer closed answer_of
+    pub closing_ends : (b ≡ 41 → ⊥) → Answer.Miss ≡ closed_answer s r
+    unfolding closed_answer closed answer_of
     closing_ends f = rw (q, ← p, ← u, ne_eqb b 41 f)
 
-  pub closing_miss : r ≡ Answer.Miss → Answer.Miss ≡ closedAnswer s r
-  unfolding closedAnswer
+  pub closing_miss : r ≡ Answer.Miss → Answer.Miss ≡ closed_answer s r
+  unfolding closed_answer
   closing_miss q = rw q
 
-  pub closing_deep : (i : ℕ) → r ≡ Answer.Deep i → Answer.Deep i ≡ closedAnswer s r
-  unfolding closedAnswer
+  pub closing_deep : (i : ℕ) → r ≡ Answer.Deep i → Answer.Deep i ≡ closed_answer s r
+  unfolding closed_answer
   closing_deep i q = rw q
 
 module _ (r : Answer) where
-  pub negating_read : (e : ℕ) (v w : Value) → r ≡ Answer.Read e v → w ≡ negated_value v → Answer.Read e w ≡ negatedAnswer r
-  unfolding negatedAnswer
+  pub negating_read : (e : ℕ) (v w : Value) → r ≡ Answer.Read e v → w ≡ negated_value v → Answer.Read e w ≡ negated_answer r
+  unfolding negated_answer
   negating_read e v w q p = rw (q, p)
 
-  pub negating_miss : r ≡ Answer.Miss → Answer.Miss ≡ negatedAnswer r
-  unfolding negatedAnswer
+  pub negating_miss : r ≡ Answer.Miss → Answer.Miss ≡ negated_answer r
+  unfolding negated_answer
   negating_miss q = rw q
 
-  pub negating_deep : (i : ℕ) → r ≡ Answer.Deep i → Answer.Deep i ≡ negatedAnswer r
-  unfolding negatedAnswer
+  pub negating_deep : (i : ℕ) → r ≡ Answer.Deep i → Answer.Deep i ≡ negated_answer r
+  unfolding negated_answer
   negating_deep i q = rw q
 
 -- ---- the classes of operators
 
-zero_operates : (times : Bool) → operatorOf times 0 ≡ false
-unfolding operatorOf is_plus is_times
+zero_operates : (times : Bool) → operator_of times 0 ≡ false
+unfolding operator_of is_plus is_times
 zero_operates true = refl
 zero_operates false = refl
 
@@ -226,8 +226,8 @@ module _ (s : List ℕ) (i b : ℕ) (l : length s < 2 ^ 64) (p : b ≡ get_or s 
   byte_fits c q z = let n = eqb-false c 0 z in let w = byte_within s i b p (omega arith) in record { fits = omega arith }
 
   -- t tells whether the byte is an operator
-  pub operator_fits : (times t : Bool) → t ≡ operatorOf times b → t ≡ true → Fits w64 (i + 1)
-  operator_fits times t u f = let w = such_within (operatorOf times) s i b (zero_operates times) p (sym u ∙ f) in record { fits = omega arith }
+  pub operator_fits : (times t : Bool) → t ≡ operator_of times b → t ≡ true → Fits w64 (i + 1)
+  operator_fits times t u f = let w = such_within (operator_of times) s i b (zero_operates times) p (sym u ∙ f) in record { fits = omega arith }
 
 pub ruleset closing_laws = (byte_fits, closing_read, closing_ends, closing_miss, closing_deep)
 

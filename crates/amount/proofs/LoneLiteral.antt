@@ -18,7 +18,7 @@ use Rattle.text.proofs.TestLaws.{absurd_bool, or_left, or_right, differ}
 use Rattle.text.proofs.Steps.{run_on, run_stops, run_same, run_first}
 use Rattle.amount.specs.Literal.{in_literal, literal_as, unsigned, literal}
 use Rattle.amount.specs.Expression.{Arithmetic, combined, groups, expression_in, expression, is_plus, is_times, chain, atom, products, sums, negation, in_group, group, within}
-use Rattle.amount.specs.steps.Answers.{answer_of, operatorOf}
+use Rattle.amount.specs.steps.Answers.{answer_of, operator_of}
 use Rattle.amount.specs.declared.expression.Answer.{Answer}
 use Rattle.amount.proofs.Forms.{was_read, was_deep, group_misses}
 use Rattle.amount.proofs.ExpressionEnds.{none_between, goes_off}
@@ -83,8 +83,8 @@ module _ (s : List ℕ) where
 -- ---- the answers of the code
 
 -- b is the byte after blanks, and x and y whether it is such an operator
-pub operator_after : (s : List ℕ) (at i b : ℕ) (x y : Bool) → i ≡ blanks s at → b ≡ get_or s i 0 → x ≡ operatorOf false b → y ≡ operatorOf true b → (x || y) ≡ (is_plus (get_or s (blanks s at) 0) || is_times (get_or s (blanks s at) 0))
-unfolding operatorOf
+pub operator_after : (s : List ℕ) (at i b : ℕ) (x y : Bool) → i ≡ blanks s at → b ≡ get_or s i 0 → x ≡ operator_of false b → y ≡ operator_of true b → (x || y) ≡ (is_plus (get_or s (blanks s at) 0) || is_times (get_or s (blanks s at) 0))
+unfolding operator_of
 operator_after s at i b x y p q u v = rw (← p, ← q, u, v)
 
 -- r is the answer of the literal, and t whether an operator follows

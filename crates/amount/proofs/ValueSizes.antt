@@ -174,9 +174,9 @@ unfolding closed
 closed_small s e v p = if_small (eqb (get_or s (blanks s e) 0) 41) (To (blanks s e + 1) v) Miss (to_small _ v p) no_small
 
 module _ (calc : Arithmetic) (keeps : Keeps calc) where
-  in-group-small : (g : ℕ → Ans Value) (s : List ℕ) → ((i : ℕ) → Smalls (g i)) → (at : ℕ) → Smalls (in_group calc g s at)
+  in_group_small : (g : ℕ → Ans Value) (s : List ℕ) → ((i : ℕ) → Smalls (g i)) → (at : ℕ) → Smalls (in_group calc g s at)
   unfolding in_group negation sums products atom
-  in-group-small g s h at =
+  in_group_small g s h at =
       else_small _ _
       (if_small (eqb (get_or s at 0) 45) _ Miss (then_small _ _ (h (blanks s (at + 1))) (λ e v p. to_small e _ (negated_small v p))) no_small)
       (chain_small calc keeps is_plus _ s (λ i. chain_small calc keeps is_times _ s (λ j. else_small _ _ (literal_small s j) (h j)) i) at)
@@ -186,12 +186,12 @@ module _ (calc : Arithmetic) (keeps : Keeps calc) where
   group_small zero s at = if_small (eqb (get_or s at 0) 40) (Hard deep_number at) Miss (hard_small at) no_small
   group_small (suc n) s at =
       if_small (eqb (get_or s at 0) 40) _ Miss
-      (then_small _ _ (in-group-small (group calc n s) s (λ i. group_small n s i) (blanks s (at + 1))) (λ e v p. closed_small s e v p)) no_small
+      (then_small _ _ (in_group_small (group calc n s) s (λ i. group_small n s i) (blanks s (at + 1))) (λ e v p. closed_small s e v p)) no_small
 
 pub expression_in_small : (form : Form) (s : List ℕ) (at : ℕ) → Smalls (expression_in form s at)
 unfolding expression_in within
 expression_in_small form s at =
-    let k = combined_small form in in-group-small (combined form) k (group (combined form) groups s) s (group_small (combined form) k groups s) at
+    let k = combined_small form in in_group_small (combined form) k (group (combined form) groups s) s (group_small (combined form) k groups s) at
 
 pub expression_small : (s : List ℕ) (at : ℕ) → Smalls (expression s at)
 unfolding expression

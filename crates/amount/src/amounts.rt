@@ -1,7 +1,7 @@
 // Amounts, and the content of a price directive (rule 10).
 ghost use Rattle.std.specs.Prelude.{◌≡◌, [], ◌∷◌};
 ghost use Rattle.amount.specs.Amounts.{amount, hard_amount, price_of};
-ghost use Rattle.amount.specs.steps.Answers.{one_of, pair_of, amountEnd, pricedFrom};
+ghost use Rattle.amount.specs.steps.Answers.{one_of, pair_of, amount_end, priced_from};
 
 use crate::detail::{Detail, One};
 use crate::expression::Answer;
@@ -19,7 +19,7 @@ pub enum Priced {
 
 // After the expression of a required amount, which spans at to e: gap, currency.
 fn required_end(s: &[u8], kind: usize, at: usize, e: usize, v: Value) -> One
-    ensures { result ≡ one_of (amountEnd kind s.now at e v) }
+    ensures { result ≡ one_of (amount_end kind s.now at e v) }
 {
     let g = line::gap(s, e);
     match g {
@@ -76,7 +76,7 @@ pub fn amount_at(s: &[u8], at: usize, kind: usize) -> One
 
 // After a price's currency, which spans at to e: gap, amount.
 fn priced_from(s: &[u8], at: usize, e: usize) -> Priced
-    ensures { result ≡ pair_of (pricedFrom s.now at e) }
+    ensures { result ≡ pair_of (priced_from s.now at e) }
 {
     let g = line::gap(s, e);
     match g {

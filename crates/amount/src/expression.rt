@@ -3,7 +3,7 @@ ghost use Rattle.std.specs.Prelude.{◌≡◌, ◌||◌, length, get_or};
 ghost use Rattle.text.specs.Run.{blanks};
 ghost use Rattle.text.specs.Answer.{◌then◌};
 ghost use Rattle.amount.specs.Expression.{negated_value, operated, combined, is_plus, is_times, goes_on, atom, products, sums, negation, closed, group, within, expression_in, expression};
-ghost use Rattle.amount.specs.steps.Answers.{answer_of, operatorOf, operand_of, negatedAnswer, closedAnswer};
+ghost use Rattle.amount.specs.steps.Answers.{answer_of, operator_of, operand_of, negated_answer, closed_answer};
 
 use crate::literal;
 use decimal::{Decimal, Form, Value};
@@ -61,7 +61,7 @@ pub fn combine(op: u8, v: Value, w: Value, form: Form) -> Value
 
 // Whether a byte is `*` or `/` where `times`, else whether it is `+` or `-`.
 pub fn is_operator(times: bool, b: u8) -> bool
-    ensures { result ≡ operatorOf times b }
+    ensures { result ≡ operator_of times b }
 {
     if times {
         return (b == b'*') | (b == b'/');
@@ -71,7 +71,7 @@ pub fn is_operator(times: bool, b: u8) -> bool
 
 // A group's expression, then blanks and `)`.
 fn closing(s: &[u8], inner: Answer) -> Answer
-    ensures { result ≡ closedAnswer s.now inner }
+    ensures { result ≡ closed_answer s.now inner }
 {
     match inner {
         Answer::Read(e, v) => {
@@ -88,7 +88,7 @@ fn closing(s: &[u8], inner: Answer) -> Answer
 }
 
 fn negating(inner: Answer) -> Answer
-    ensures { result ≡ negatedAnswer inner }
+    ensures { result ≡ negated_answer inner }
 {
     match inner {
         Answer::Read(e, v) => Answer::Read(e, negated(v)),
@@ -98,7 +98,7 @@ fn negating(inner: Answer) -> Answer
 }
 
 // `left` more groups may open one in another.
-#[cycle(atom_at_chain_from_group_at_negation_at_operand_at_product_at_sum_at_within_at)]
+#[cycle(expression)]
 fn group_at(s: &[u8], at: usize, left: usize, form: Form) -> Answer
     ensures { result ≡ answer_of (group (combined form) left s.now at) }
 {
@@ -112,7 +112,7 @@ fn group_at(s: &[u8], at: usize, left: usize, form: Form) -> Answer
     Answer::Miss
 }
 
-#[cycle(atom_at_chain_from_group_at_negation_at_operand_at_product_at_sum_at_within_at)]
+#[cycle(expression)]
 fn atom_at(s: &[u8], at: usize, left: usize, form: Form) -> Answer
     ensures { result ≡ answer_of (atom (group (combined form) left s.now) s.now at) }
 {
@@ -125,7 +125,7 @@ fn atom_at(s: &[u8], at: usize, left: usize, form: Form) -> Answer
 }
 
 // What `*` and `/` join where `times`, else what `+` and `-` join.
-#[cycle(atom_at_chain_from_group_at_negation_at_operand_at_product_at_sum_at_within_at)]
+#[cycle(expression)]
 fn operand_at(s: &[u8], at: usize, left: usize, times: bool, form: Form) -> Answer
     ensures { result ≡ answer_of (operand_of times (combined form) (group (combined form) left s.now) s.now at) }
 {
@@ -136,9 +136,9 @@ fn operand_at(s: &[u8], at: usize, left: usize, times: bool, form: Form) -> Answ
 }
 
 // Operators of one class with their operands, from a value on.
-#[cycle(atom_at_chain_from_group_at_negation_at_operand_at_product_at_sum_at_within_at)]
+#[cycle(expression)]
 fn chain_from(s: &[u8], from: usize, first: Value, left: usize, times: bool, form: Form) -> Answer
-    ensures { result ≡ answer_of (goes_on (combined form) (operatorOf times) (operand_of times (combined form) (group (combined form) left s.now) s.now) s.now (length s.now) first from) }
+    ensures { result ≡ answer_of (goes_on (combined form) (operator_of times) (operand_of times (combined form) (group (combined form) left s.now) s.now) s.now (length s.now) first from) }
 {
     let mut end = from;
     let mut value = first;
@@ -168,7 +168,7 @@ fn chain_from(s: &[u8], from: usize, first: Value, left: usize, times: bool, for
     Answer::Read(end, value)
 }
 
-#[cycle(atom_at_chain_from_group_at_negation_at_operand_at_product_at_sum_at_within_at)]
+#[cycle(expression)]
 fn product_at(s: &[u8], at: usize, left: usize, form: Form) -> Answer
     ensures { result ≡ answer_of (products (combined form) (group (combined form) left s.now) s.now at) }
 {
@@ -180,7 +180,7 @@ fn product_at(s: &[u8], at: usize, left: usize, form: Form) -> Answer
     }
 }
 
-#[cycle(atom_at_chain_from_group_at_negation_at_operand_at_product_at_sum_at_within_at)]
+#[cycle(expression)]
 fn sum_at(s: &[u8], at: usize, left: usize, form: Form) -> Answer
     ensures { result ≡ answer_of (sums (combined form) (group (combined form) left s.now) s.now at) }
 {
@@ -192,7 +192,7 @@ fn sum_at(s: &[u8], at: usize, left: usize, form: Form) -> Answer
     }
 }
 
-#[cycle(atom_at_chain_from_group_at_negation_at_operand_at_product_at_sum_at_within_at)]
+#[cycle(expression)]
 fn negation_at(s: &[u8], at: usize, left: usize, form: Form) -> Answer
     ensures { result ≡ answer_of (negation (group (combined form) left s.now) s.now at) }
 {
@@ -204,7 +204,7 @@ fn negation_at(s: &[u8], at: usize, left: usize, form: Form) -> Answer
 }
 
 // An expression, where `left` groups may open one in another.
-#[cycle(atom_at_chain_from_group_at_negation_at_operand_at_product_at_sum_at_within_at)]
+#[cycle(expression)]
 fn within_at(s: &[u8], at: usize, left: usize, form: Form) -> Answer
     ensures { result ≡ answer_of (within (combined form) left s.now at) }
 {

@@ -121,9 +121,9 @@ module _ (base : ℕ) (s : List ℕ) (at : ℕ) (o : Out) (t : List ℕ) (x : An
     unfolding balance_amount must ◌then◌
     amount_is = rw (was_read (expression s at) x e v p q)
 
-    pub amount_end : (f : ℕ) (d : Detail) (u : List ℕ) (r : Ran) → y ≡ One.Read f d → Did base (balance_end at e v d s f) o t u r → Did base (balance_amount s at) o t u r
+    pub amount_end_lem : (f : ℕ) (d : Detail) (u : List ℕ) (r : Ran) → y ≡ One.Read f d → Did base (balance_end at e v d s f) o t u r → Did base (balance_amount s at) o t u r
     unfolding tolerance_of balance_end
-    amount_end f d u r k D = rw amount_is (then_read base o t (tolerance_of s e) (after e v) f (some_row d) u r (some_read e y f d (tolerance_row s e) w k) D)
+    amount_end_lem f d u r k D = rw amount_is (then_read base o t (tolerance_of s e) (after e v) f (some_row d) u r (some_read e y f d (tolerance_row s e) w k) D)
 
     pub amount_miss : y ≡ One.Miss → Did base (balance_amount s at) o t t Ran.Miss
     unfolding ◌then◌
@@ -179,6 +179,6 @@ pub ruleset tilde_laws = (tilde_on, tilde_no, tilde_past)
 
 pub ruleset end_laws = (end_gap, end_unit, end_read)
 
-pub ruleset amount_laws = (amount_none, amount_deep, amount_end, amount_miss, amount_hard)
+pub ruleset amount_laws = (amount_none, amount_deep, amount_end_lem, amount_miss, amount_hard)
 
 pub ruleset balance_laws = (balance_read, balance_miss, balance_hard, account_room)

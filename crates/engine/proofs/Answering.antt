@@ -12,7 +12,7 @@ use Rattle.text.specs.Run.{blanks}
 use Rattle.text.specs.Answer.{Miss}
 use Rattle.amount.specs.Literal.{literal}
 use Rattle.amount.specs.Expression.{Arithmetic, negated_value}
-use Rattle.amount.specs.steps.Answers.{answer_of, operatorOf}
+use Rattle.amount.specs.steps.Answers.{answer_of, operator_of}
 use Rattle.amount.specs.declared.expression.Answer.{Answer}
 use Rattle.amount.proofs.Forms.{was_read, was_miss, was_deep, byte_fits, operator_fits}
 use Rattle.engine.specs.declared.Pending.{Pending}
@@ -75,17 +75,17 @@ module _ (calc : Arithmetic) (s : List ℕ) (f : Frame) (e : ℕ) (v : Value) wh
   unnegated h = ap (λ m. cond m (Done e (negated_value v)) (step_of calc s f e v)) (sym h)
 
   -- b is the byte after blanks
-  module _ (h : f.negated ≡ false) (i b : ℕ) (t r : Bool) (p : i ≡ blanks s e) (q : b ≡ get_or s i 0) (l : t ≡ operatorOf true b) (m : r ≡ operatorOf false b) where
+  module _ (h : f.negated ≡ false) (i b : ℕ) (t r : Bool) (p : i ≡ blanks s e) (q : b ≡ get_or s i 0) (l : t ≡ operator_of true b) (m : r ≡ operator_of false b) where
     pub settle_on : (g : Frame) (j : ℕ) → (t || r) ≡ true → g ≡ after_of calc f t b v e → j ≡ blanks s (i + 1) → Operand g j ≡ settle_of calc s f e v
-    unfolding step_of operatorOf
+    unfolding step_of operator_of
     settle_on g j k u o = rw (← p, ← q, ← l, ← m, k, ← u, ← o) at (unnegated h)
 
     pub settle_done : (w : Value) → (t || r) ≡ false → w ≡ total_of calc f v → Done e w ≡ settle_of calc s f e v
-    unfolding step_of operatorOf
+    unfolding step_of operator_of
     settle_done w k u = rw (← p, ← q, ← l, ← m, k, ← u) at (unnegated h)
 
 -- t and r tell of which class the operator b is
-pub either_fits : (s : List ℕ) (i b : ℕ) → length s < 2 ^ 64 → b ≡ get_or s i 0 → (t r : Bool) → t ≡ operatorOf true b → r ≡ operatorOf false b → (t || r) ≡ true → Fits w64 (i + 1)
+pub either_fits : (s : List ℕ) (i b : ℕ) → length s < 2 ^ 64 → b ≡ get_or s i 0 → (t r : Bool) → t ≡ operator_of true b → r ≡ operator_of false b → (t || r) ≡ true → Fits w64 (i + 1)
 either_fits s i b h p true r l m k = operator_fits s i b h p true true l refl
 either_fits s i b h p false r l m k = operator_fits s i b h p false r m k
 

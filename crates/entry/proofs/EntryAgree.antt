@@ -13,7 +13,7 @@ use Rattle.text.specs.Run.{run_to}
 use Rattle.text.specs.Answer.{Ans, To, Miss, Hard, more, ◌then◌, ◌and◌}
 use Rattle.text.specs.Leaves.{gap, hard_gap, word, line_end}
 use Rattle.text.proofs.TestLaws.{absurd_bool}
-use Rattle.text.proofs.InLine.{hasLF, no_lf}
+use Rattle.text.proofs.InLine.{has_lf, no_lf}
 use Rattle.text.proofs.Joins.{required, Reach, reach_from, must_reach, and_reach}
 use Rattle.text.proofs.Alike.{Same, Upto, upto, both_to, to_same, if_alike}
 use Rattle.text.proofs.SharedLines.{Shared, byte_same, run_alike, gap_alike, line_alike, tag_alike, word_alike, date_alike, hard_gap_alike}
@@ -81,10 +81,10 @@ ending_miss s m e = go (line_end s m) e
     go Miss e = refl
     go (Hard k p) e = absurd (never _ sure_hard e)
 
-words_lf : (hasLF (bytes "price") ≡ false) × (hasLF (bytes "balance") ≡ false) × (hasLF (bytes "open") ≡ false) × (hasLF (bytes "close") ≡ false)
-    × (hasLF (bytes "pad") ≡ false) × (hasLF (bytes "commodity") ≡ false) × (hasLF (bytes "event") ≡ false)
-    × (hasLF (bytes "option") ≡ false) × (hasLF (bytes "include") ≡ false) × (hasLF (bytes "pushtag") ≡ false) × (hasLF (bytes "poptag") ≡ false)
-unfolding bytes hasLF
+words_lf : (has_lf (bytes "price") ≡ false) × (has_lf (bytes "balance") ≡ false) × (has_lf (bytes "open") ≡ false) × (has_lf (bytes "close") ≡ false)
+    × (has_lf (bytes "pad") ≡ false) × (has_lf (bytes "commodity") ≡ false) × (has_lf (bytes "event") ≡ false)
+    × (has_lf (bytes "option") ≡ false) × (has_lf (bytes "include") ≡ false) × (has_lf (bytes "pushtag") ≡ false) × (has_lf (bytes "poptag") ≡ false)
+unfolding bytes has_lf
 words_lf = (refl, refl, refl, refl, refl, refl, refl, refl, refl, refl, refl)
 
 module _ (front t : List ℕ) (b : ℕ) (B : is_start b ≡ true) where
@@ -105,13 +105,13 @@ module _ (front t : List ℕ) (b : ℕ) (B : is_start b ≡ true) where
 
   -- ---- rule 4: a keyword, and what follows its gap
 
-  keyword_at_lem : (w : String) (content : List ℕ → ℕ → Rows) → hasLF (bytes w) ≡ false → (at : ℕ) → at < M
+  keyword_at_lem : (w : String) (content : List ℕ → ℕ → Rows) → has_lf (bytes w) ≡ false → (at : ℕ) → at < M
       → ((g : ℕ) → g < M → Agrees M (suc M) false (content S g and ending S) (content X g and ending X)) → Agrees M (suc M) false (keyword w content S at) (keyword w content X at)
   unfolding keyword
   keyword_at_lem w content f at h c =
       and_agree (word_alike C (bytes w) f (upto at h)) (λ e h₁. and_agree (hard_gap_alike C word_gap_number (upto e h₁)) (λ g h₂. c g h₂))
 
-  keyword_agree : (w : String) (content : List ℕ → ℕ → Rows) → hasLF (bytes w) ≡ false → ((g : ℕ) → g < M → Same M (content S g) (content X g)) → (at : ℕ) → at < M
+  keyword_agree : (w : String) (content : List ℕ → ℕ → Rows) → has_lf (bytes w) ≡ false → ((g : ℕ) → g < M → Same M (content S g) (content X g)) → (at : ℕ) → at < M
       → Agrees M (suc M) false (keyword w content S at) (keyword w content X at)
   keyword_agree w content f c at h = keyword_at_lem w content f at h (λ g h₁. and_agree (c g h₁) (λ m h₂. ending_agree front t b B m h₂))
 
@@ -154,7 +154,7 @@ module _ (front t : List ℕ) (b : ℕ) (B : is_start b ≡ true) where
       (else_agree (worded 12 "commodity" hard_currency words_lf.5 (λ g h. hard_currency_alike C (upto g h)))
       (as_entry_agree 13 d (event_agree at h c))))))))
     where
-      worded : (k : ℕ) (w : String) (content : List ℕ → ℕ → Rows) → hasLF (bytes w) ≡ false → ((g : ℕ) → g < M → Same M (content S g) (content X g))
+      worded : (k : ℕ) (w : String) (content : List ℕ → ℕ → Rows) → has_lf (bytes w) ≡ false → ((g : ℕ) → g < M → Same M (content S g) (content X g))
           → Agree in_form M (suc M) false (as_entry k d (keyword w content S at)) (as_entry k d (keyword w content X at))
       worded k w content f e = as_entry_agree k d (keyword_agree w content f e at h)
 
@@ -186,7 +186,7 @@ module _ (front t : List ℕ) (b : ℕ) (B : is_start b ≡ true) where
       and_loose N (hard_string_agree front t b B c h₂) (hard_string_reach S c (omega (arith, longer front t b B))) (λ j _ h₃. line_agree front t b B required_number j (omega arith))
       (λ j p q. must_reach N j required j _ q (line_reach S j q)) (λ j. sure_must required_number j _)))
 
-  tagged_agree : (w : String) → hasLF (bytes w) ≡ false → 0 < M → Agrees M (suc M) false (tagged w S 0) (tagged w X 0)
+  tagged_agree : (w : String) → has_lf (bytes w) ≡ false → 0 < M → Agrees M (suc M) false (tagged w S 0) (tagged w X 0)
   unfolding tagged
   tagged_agree w f h =
       and_agree (word_alike C (bytes w) f (upto 0 h)) (λ a h₁.

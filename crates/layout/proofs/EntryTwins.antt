@@ -8,7 +8,7 @@ use lib.ListN.{length}
 use Rattle.text.specs.Bytes.{bytes}
 use Rattle.text.specs.Answer.{Miss, ◌and◌, ◌else◌, must, maybe, many}
 use Rattle.text.specs.Leaves.{line_end, empty_line}
-use Rattle.text.proofs.InLine.{hasLF}
+use Rattle.text.proofs.InLine.{has_lf}
 use Rattle.text.specs.Every.{Every}
 use Rattle.text.proofs.Alike.{alike_map, and_alike, both_to, else_alike, must_alike}
 use Rattle.text.proofs.SharedLines.{date_alike, empty_alike, gap_alike, hard_gap_alike, line_alike, tag_alike, word_alike}
@@ -49,7 +49,7 @@ tried_follow p q s z i j [] f = λ e. refl
 tried_follow p q s z i j (c ∷ cs) f = else_follow _ _ _ _ (entry_follow c.kind p q _ _ f.0) (tried_follow p q s z i j cs f.1)
 
 module _ {s z : List ℕ} where
-  keyword_follow : {i j : ℕ} (w : String) → hasLF (bytes w) ≡ false → (content : List ℕ → ℕ → Rows)
+  keyword_follow : {i j : ℕ} (w : String) → has_lf (bytes w) ≡ false → (content : List ℕ → ℕ → Rows)
       → ((i j : ℕ) → Spot s z i j → Twin s z (content s i) (content z j)) → Spot s z i j → Follow (keyword w content s i) (keyword w content z j)
   unfolding keyword metadata
   keyword_follow w f content C S =
@@ -66,7 +66,7 @@ module _ {s z : List ℕ} where
   transaction_follow {i} {j} S e = rw (opening_follow S (rest_misses s i e))
 
   keywords_follow : {i j : ℕ} → Spot s z i j → Every (λ c. Follow (c.reads s i) (c.reads z j)) keywords
-  unfolding keywords hasLF bytes
+  unfolding keywords has_lf bytes
   keywords_follow S = (
     keyword_follow "price" refl price_of (λ i j P. price_of_alike quiet P) S,
     (
@@ -97,23 +97,23 @@ module _ {s z : List ℕ} where
   directive_follow S = then_follow _ _ (date_alike quiet S) (λ a b x y P. then_follow _ _ (hard_gap_alike quiet {A = Detail} word_gap_number P) (λ c d k l Q. dateless_follow x y Q))
 
   option_follow : {i j : ℕ} → Spot s z i j → Follow (option s i) (option z j)
-  unfolding option hasLF bytes
+  unfolding option has_lf bytes
   option_follow S =
       and_follow _ _ (word_alike quiet (bytes "option") refl S) (λ a b P. and_follow _ _ (gap_alike quiet P) (λ c d Q. and_follow _ _ (quoted_twin _ _ Q) (λ e f R. and_follow _ _ (gap_alike quiet R) (λ g h U.
       and_follow _ _ (quoted_twin _ _ U) (λ k l W. alike_miss (line_alike quiet W))))))
 
   include_follow : {i j : ℕ} → Spot s z i j → Follow (include s i) (include z j)
-  unfolding include hasLF bytes
+  unfolding include has_lf bytes
   include_follow S =
       and_follow _ _ (word_alike quiet (bytes "include") refl S) (λ a b P. and_follow _ _ (hard_gap_alike quiet word_gap_number P) (λ c d Q. and_follow _ _ (string_must Q) (λ e f R. alike_miss (must_alike required_number e f (λ q. absurd q) (line_alike quiet R)))))
 
-  tagged_follow : {i j : ℕ} (w : String) → hasLF (bytes w) ≡ false → Spot s z i j → Follow (tagged w s i) (tagged w z j)
+  tagged_follow : {i j : ℕ} (w : String) → has_lf (bytes w) ≡ false → Spot s z i j → Follow (tagged w s i) (tagged w z j)
   unfolding tagged
   tagged_follow w f S =
       and_follow _ _ (word_alike quiet (bytes w) f S) (λ a b P. and_follow _ _ (gap_alike quiet P) (λ c d Q. and_follow _ _ (tag_alike quiet Q) (λ e g R. λ m. to_miss m)))
 
   pub wordings_follow : Spot s z 0 0 → Every (λ c. c.reads s 0 ≡ Miss) wordings → Every (λ c. c.reads z 0 ≡ Miss) wordings
-  unfolding wordings hasLF bytes
+  unfolding wordings has_lf bytes
   wordings_follow S m =
       (option_follow S m.0, (include_follow S m.1.0, (tagged_follow "pushtag" refl S m.1.1.0, (tagged_follow "poptag" refl S m.1.1.1.0, tt))))
 

@@ -215,13 +215,13 @@ pub line_text : (f : ℕ) (w : List ℕ) {us : List Item} → Units us → List 
 line_text f w U = 32 ∷ 32 ∷ (flag_text f ++ (w ++ units_text U))
 
 -- an account's second byte is no blank
-in-blank : (b : ℕ) → in_account b ≡ true → is_blank b ≡ false
+in_blank : (b : ℕ) → in_account b ≡ true → is_blank b ≡ false
 unfolding in_account is_capital is_small is_digit is_blank
-in-blank b e = rw (ne_eqb b 32 (differ in_account b 32 e refl), ne_eqb b 9 (differ in_account b 9 e refl))
+in_blank b e = rw (ne_eqb b 32 (differ in_account b 32 e refl), ne_eqb b 9 (differ in_account b 9 e refl))
 
 second_blank : (h : ℕ) (xs t : List ℕ) → All in_account xs → is_blank (get_or (h ∷ (xs ++ (58 ∷ t))) 1 0) ≡ false
 second_blank h [] t H = shown 58 (omega arith)
-second_blank h (x ∷ xs) t H = in-blank x H.0
+second_blank h (x ∷ xs) t H = in_blank x H.0
 
 part_small : (b : ℕ) → starts_part b ≡ true → is_small b ≡ false
 unfolding starts_part is_capital is_digit is_small

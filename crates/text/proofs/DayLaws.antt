@@ -57,9 +57,9 @@ module _ (s : List ℕ) (at : ℕ) where
       q : ℕ
       q = two s at * 1000000 + two s (at + 2) * 10000 + m * 100 + d
 
-      in-range : like_shape date_shape (drop at s) ≡ true → (a b c f : Bool) → leb 1 m ≡ a → leb m 12 ≡ b → leb 1 d ≡ c → leb d 31 ≡ f
+      in_range : like_shape date_shape (drop at s) ≡ true → (a b c f : Bool) → leb 1 m ≡ a → leb m 12 ≡ b → leb 1 d ≡ c → leb d 31 ≡ f
           → dated (cond (a && b && c && f) (Dated.On (at + 10) q) Dated.Miss) ≡ To e p → Day p × (e ≡ at + 10)
-      in-range l true true true true x y z w h =
+      in_range l true true true true x y z w h =
           let f : p ≡ q = cc in
           let g : e ≡ at + 10 = cc in
           let i = two_low l at 0 (omega arith) (omega arith) refl refl in
@@ -71,14 +71,14 @@ module _ (s : List ℕ) (at : ℕ) where
           let mm : p / 100 % 100 ≡ m = rw f (omega arith) in
           let dd : p % 100 ≡ d = rw f (omega arith) in
           (record { low = rw f (omega arith); from_month = omega arith; to_month = omega arith; from_day = omega arith; to_day = omega arith }, g)
-      in-range l false b c f x y z w h = not_miss h
-      in-range l true false c f x y z w h = not_miss h
-      in-range l true true false f x y z w h = not_miss h
-      in-range l true true true false x y z w h = not_miss h
+      in_range l false b c f x y z w h = not_miss h
+      in_range l true false c f x y z w h = not_miss h
+      in_range l true true false f x y z w h = not_miss h
+      in_range l true true true false x y z w h = not_miss h
 
       go : (b : Bool) → like_shape date_shape (drop at s) ≡ b
           → dated (cond b (cond (leb 1 m && leb m 12 && leb 1 d && leb d 31) (Dated.On (at + 10) q) Dated.Miss) Dated.Miss) ≡ To e p → Day p × (e ≡ at + 10)
-      go true l h = in-range l (leb 1 m) (leb m 12) (leb 1 d) (leb d 31) refl refl refl refl h
+      go true l h = in_range l (leb 1 m) (leb m 12) (leb 1 d) (leb d 31) refl refl refl refl h
       go false l h = not_miss h
 
 -- ---- the first byte of a date

@@ -18,9 +18,9 @@ use Rattle.text.proofs.TestLaws.{differ}
 use Rattle.text.proofs.Steps.{run_stops, run_ends}
 
 -- a line feed stands in a text
-unfoldable pub hasLF : List ℕ → Bool
-hasLF [] = false
-hasLF (x ∷ r) = eqb x 10 || hasLF r
+unfoldable pub has_lf : List ℕ → Bool
+has_lf [] = false
+has_lf (x ∷ r) = eqb x 10 || has_lf r
 
 -- none of the classes of the tokens' bytes holds it
 pub record NoLF : Type 0 where

@@ -25,7 +25,7 @@ use Rattle.text.specs.declared.account.AccountRead.{AccountRead}
 use Rattle.text.specs.declared.date.Dated.{Dated}
 use Rattle.text.proofs.TestLaws.{apart, or_left, or_right, and_left, and_right}
 use Rattle.text.proofs.Steps.{drop_step, head_drop, run_on, run_stops}
-use Rattle.text.proofs.InLine.{hasLF, no_lf}
+use Rattle.text.proofs.InLine.{has_lf, no_lf}
 use Rattle.text.proofs.AccountLaws.{account_answers}
 use Rattle.text.proofs.Compared.{Compares, word_compares, shape_compares}
 use Rattle.text.proofs.Alike.{Alike, both_to, both_miss, both_hard, alike_map, cond_alike, if_alike, must_alike}
@@ -232,36 +232,36 @@ module _ {Q : Type 0} {s z : List ℕ} {K P : ℕ → ℕ → Type 0} (L : Share
   -- a comparison with bytes that hold no line feed; where they stand, each of them and the place behind them stands in
   -- the line
   module _ (m : List ℕ → List ℕ → Bool) (C : Compares m) where
-    compared : (w : List ℕ) → hasLF w ≡ false → (i j : ℕ) → K i j → m w (drop j z) ≡ m w (drop i s)
-    unfolding hasLF
+    compared : (w : List ℕ) → has_lf w ≡ false → (i j : ℕ) → K i j → m w (drop j z) ≡ m w (drop i s)
+    unfolding has_lf
     compared [] n i j S = C.none (drop j z) ∙ sym (C.none (drop i s))
     compared (c ∷ w) n i j S =
         let l = L.inside i j S in
         rw (drop_step s i l.0, drop_step z j l.1, C.step c w (get_or s i 0) (drop (i + 1) s), C.step c w (get_or z j 0) (drop (j + 1) z), byte_same S)
-        (go (C.takes c (get_or s i 0)) refl (compared w (or_right (eqb c 10) (hasLF w) n) (i + 1) (j + 1)))
+        (go (C.takes c (get_or s i 0)) refl (compared w (or_right (eqb c 10) (has_lf w) n) (i + 1) (j + 1)))
       where
         go : (b : Bool) → C.takes c (get_or s i 0) ≡ b → (K (i + 1) (j + 1) → m w (drop (j + 1) z) ≡ m w (drop (i + 1) s))
             → (b && m w (drop (j + 1) z)) ≡ (b && m w (drop (i + 1) s))
-        go true e u = u (step (C.takes c) (C.no_lf c (or_left (eqb c 10) (hasLF w) n)) S e)
+        go true e u = u (step (C.takes c) (C.no_lf c (or_left (eqb c 10) (has_lf w) n)) S e)
         go false e u = refl
 
-    compared_far : (w : List ℕ) → hasLF w ≡ false → (i j : ℕ) → K i j → m w (drop i s) ≡ true → (k a b : ℕ) → k ≤ length w → a ≡ i + k → b ≡ j + k → K a b
-    unfolding hasLF
+    compared_far : (w : List ℕ) → has_lf w ≡ false → (i j : ℕ) → K i j → m w (drop i s) ≡ true → (k a b : ℕ) → k ≤ length w → a ≡ i + k → b ≡ j + k → K a b
+    unfolding has_lf
     compared_far w n i j S e zero a b l p q = let x : a ≡ i = omega arith in let y : b ≡ j = omega arith in rw (x, y) S
     compared_far [] n i j S e (suc k) a b l p q = absurd (omega arith)
     compared_far (c ∷ w) n i j S e (suc k) a b l p q =
         let f = sym (C.step c w (get_or s i 0) (drop (i + 1) s)) ∙ sym (ap (m (c ∷ w)) (drop_step s i (L.inside i j S).0)) ∙ e in
-        let T = step (C.takes c) (C.no_lf c (or_left (eqb c 10) (hasLF w) n)) S (and_left (C.takes c (get_or s i 0)) (m w (drop (i + 1) s)) f) in
-        compared_far w (or_right (eqb c 10) (hasLF w) n) (i + 1) (j + 1) T (and_right (C.takes c (get_or s i 0)) (m w (drop (i + 1) s)) f) k a b (omega arith) (omega arith) (omega arith)
+        let T = step (C.takes c) (C.no_lf c (or_left (eqb c 10) (has_lf w) n)) S (and_left (C.takes c (get_or s i 0)) (m w (drop (i + 1) s)) f) in
+        compared_far w (or_right (eqb c 10) (has_lf w) n) (i + 1) (j + 1) T (and_right (C.takes c (get_or s i 0)) (m w (drop (i + 1) s)) f) k a b (omega arith) (omega arith) (omega arith)
 
-  pub word_alike : {A : Type 0} (w : List ℕ) → hasLF w ≡ false → {i j : ℕ} → K i j → Alike {A = List A} Q K (word w s i) (word w z j)
+  pub word_alike : {A : Type 0} (w : List ℕ) → has_lf w ≡ false → {i j : ℕ} → K i j → Alike {A = List A} Q K (word w s i) (word w z j)
   unfolding word word_at token
   word_alike w f {i} {j} S =
       rw (compared starts_with word_compares w f i j S) (cond_alike token token (starts_with w (drop i s)) _ _ Read.Miss Read.Miss
       (λ e. both_to _ _ [] [] (compared_far starts_with word_compares w f i j S e (length w) _ _ (omega arith) refl refl) (λ _. refl)) (λ _. both_miss))
 
-  date_lf : hasLF date_shape ≡ false
-  unfolding hasLF
+  date_lf : has_lf date_shape ≡ false
+  unfolding has_lf
   date_lf = refl
 
   -- where the shape of a date stands

@@ -87,18 +87,18 @@ module _ (s : List ℕ) (y m room work spare : ℕ) where
     unfolding month_postings rows_of
     postings_are = ap (λ (x : Reading). postings (dated y m) (rows_of x)) A.reads
 
-    in-month : decided s y m room work spare (plain s)
+    in_month : decided s y m room work spare (plain s)
         ≡ cond (leb (length (month_postings s y m) * record_width) work && leb (length (month_postings s y m) * record_width) spare) (listed_month s y m room)
         (Outcome.early 9 1 (length (month_postings s y m) * record_width))
     unfolding listed_month
-    in-month = ap (decided s y m room work spare) A.reads ∙ rw postings_are (accepted_month A.rows e)
+    in_month = ap (decided s y m room work spare) A.reads ∙ rw postings_are (accepted_month A.rows e)
 
     module _ (n used : ℕ) (en : n ≡ length (month_postings s y m)) (eu : used ≡ n * record_width) where
       too_short_lem : (leb used work && leb used spare) ≡ false → decided s y m room work spare (plain s) ≡ Outcome.early 9 1 used
-      too_short_lem h = let q : used ≡ length (month_postings s y m) * record_width = omega arith in in-month ∙ rw (← q, h)
+      too_short_lem h = let q : used ≡ length (month_postings s y m) * record_width = omega arith in in_month ∙ rw (← q, h)
 
       enough : used ≤ work → used ≤ spare → decided s y m room work spare (plain s) ≡ listed_month s y m room
-      enough h k = let q : used ≡ length (month_postings s y m) * record_width = omega arith in in-month ∙ rw (← q, le-leb used work h, le-leb used spare k)
+      enough h k = let q : used ≡ length (month_postings s y m) * record_width = omega arith in in_month ∙ rw (← q, le-leb used work h, le-leb used spare k)
 
       short_work : work < used → decided s y m room work spare (plain s) ≡ Outcome.early 9 1 used
       short_work h = too_short_lem (rw (lt-leb used work h))

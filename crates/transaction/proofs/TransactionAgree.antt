@@ -14,7 +14,7 @@ use Rattle.text.specs.Tags.{marked_at}
 use Rattle.text.specs.Answer.{To, Miss, Hard, must, ◌else◌, more, ◌and◌}
 use Rattle.text.specs.Leaves.{token, gap, string, tag, link, line_end}
 use Rattle.text.proofs.Steps.{run_stops, run_ends}
-use Rattle.text.proofs.InLine.{hasLF, start_not, start_bounds}
+use Rattle.text.proofs.InLine.{has_lf, start_not, start_bounds}
 use Rattle.text.proofs.Joins.{required, Reach, reach_from, must_reach, and_reach}
 use Rattle.text.proofs.Alike.{Same, Upto, upto, both_to, to_same, miss_same, same_below, else_alike, and_alike, many_alike}
 use Rattle.text.proofs.SharedLines.{Shared, told, blanks_alike, gap_alike, tag_alike, link_alike, word_alike}
@@ -36,8 +36,8 @@ use Rattle.posting.proofs.PostingAgree.{longer, line_agree, metadata_agree, sure
 use Rattle.transaction.specs.Transaction.{opening, texts, mark, marks, transaction}
 use Rattle.transaction.proofs.TransactionEnds.{mark_reach, marks_reach, texts_reach}
 
-pub txn_lf : hasLF (bytes "txn") ≡ false
-unfolding hasLF bytes
+pub txn_lf : has_lf (bytes "txn") ≡ false
+unfolding has_lf bytes
 txn_lf = refl
 
 -- no mark stands where its byte does not

@@ -31,34 +31,34 @@ one_of Miss = One.Miss
 one_of (Hard k p) = One.Hard k p
 
 -- the operators of a class, `*` and `/` or else `+` and `-`, and what they join
-unfoldable pub operatorOf : Bool → ℕ → Bool
-operatorOf true = is_times
-operatorOf false = is_plus
+unfoldable pub operator_of : Bool → ℕ → Bool
+operator_of true = is_times
+operator_of false = is_plus
 
 unfoldable pub operand_of : Bool → Arithmetic → (ℕ → Ans Value) → List ℕ → ℕ → Ans Value
 operand_of true calc = atom
 operand_of false calc = products calc
 
 -- an expression's answer, negated
-unfoldable pub negatedAnswer : Answer → Answer
-negatedAnswer (Answer.Read e v) = Answer.Read e (negated_value v)
-negatedAnswer Answer.Miss = Answer.Miss
-negatedAnswer (Answer.Deep p) = Answer.Deep p
+unfoldable pub negated_answer : Answer → Answer
+negated_answer (Answer.Read e v) = Answer.Read e (negated_value v)
+negated_answer Answer.Miss = Answer.Miss
+negated_answer (Answer.Deep p) = Answer.Deep p
 
 -- a group's expression, then blanks and `)`
-unfoldable pub closedAnswer : List ℕ → Answer → Answer
-closedAnswer s (Answer.Read e v) = answer_of (closed s e v)
-closedAnswer s Answer.Miss = Answer.Miss
-closedAnswer s (Answer.Deep p) = Answer.Deep p
+unfoldable pub closed_answer : List ℕ → Answer → Answer
+closed_answer s (Answer.Read e v) = answer_of (closed s e v)
+closed_answer s Answer.Miss = Answer.Miss
+closed_answer s (Answer.Deep p) = Answer.Deep p
 
 -- what follows the expression of a required amount
-unfoldable pub amountEnd : ℕ → List ℕ → ℕ → ℕ → Value → Rows
-amountEnd k s at e v =
+unfoldable pub amount_end : ℕ → List ℕ → ℕ → ℕ → Value → Rows
+amount_end k s at e v =
     hard_gap required_number s e and λ c. must required_number c (currency s c) and λ d. To d (valued k at e c d v ∷ [])
 
 -- a price from after its currency
-unfoldable pub pricedFrom : List ℕ → ℕ → ℕ → Rows
-pricedFrom s at e = To e (span currency_kind at e ∷ []) and λ e. hard_gap required_number s e and λ g. hard_amount amount_kind s g
+unfoldable pub priced_from : List ℕ → ℕ → ℕ → Rows
+priced_from s at e = To e (span currency_kind at e ∷ []) and λ e. hard_gap required_number s e and λ g. hard_amount amount_kind s g
 
 -- the answer of a reader that makes two rows and never misses
 unfoldable pub pair_of : Rows → Priced
