@@ -1,8 +1,8 @@
-use mathlib.Core.Logic.{⊎_elim}
 use Rattle.amount.specs.steps.Kept.{factor}
 use Rattle.amount.proofs.LiteralLaws.{fraction_laws}
 use borrow.Author.Rules.{rules}
 use Rattle.amount.proofs.literal.fraction_part.Goals as goal
+use Rattle.amount.proofs.literal.fraction_part.Goals.{then-places-lt6, else-places-lt6+then-b-ne48, else-places-lt6+else-b-ne48}
 
 pub loop-i-init : goal.loop-i-init
 unfolding factor
@@ -36,7 +36,7 @@ pub loop-i-smaller-then-is_digit : goal.loop-i-smaller-then-is_digit
 loop-i-smaller-then-is_digit c = search (rules, fraction_laws)
 
 pub loop-i-preserved-then-is_digit : goal.loop-i-preserved-then-is_digit
-loop-i-preserved-then-is_digit c = ⊎_elim (λ w. search (rules, fraction_laws)) (⊎_elim (λ w. search (rules, fraction_laws)) (λ w. search (rules, fraction_laws))) c.if-places-lt6.branch
+loop-i-preserved-then-is_digit c = elim c.if-places-lt6.branch [ | then-places-lt6 w ↦ search (rules, fraction_laws) | else-places-lt6+then-b-ne48 w ↦ search (rules, fraction_laws) | else-places-lt6+else-b-ne48 w ↦ search (rules, fraction_laws) ]
 
 pub overflow_add-i-then-b-eq44 : goal.overflow_add-i-then-b-eq44
 overflow_add-i-then-b-eq44 c = search (rules, fraction_laws)

@@ -1,7 +1,7 @@
-use mathlib.Core.Logic.{⊎_elim}
 use Rattle.amount.proofs.LiteralLaws.{unsigned_laws}
 use borrow.Author.Rules.{rules}
 use Rattle.amount.proofs.literal.unsigned_at.Goals as goal
+use Rattle.amount.proofs.literal.unsigned_at.Goals.{then-end-s+else-s-end-eq46, else-end-s}
 
 pub run-requires : goal.run-requires
 run-requires c = search (rules, unsigned_laws)
@@ -22,4 +22,4 @@ pub without_point-requires : goal.without_point-requires
 without_point-requires c = search (rules, unsigned_laws)
 
 pub returns : goal.returns
-returns c = ⊎_elim (λ w. search (rules, unsigned_laws)) (λ w. search (rules, unsigned_laws)) c.if-end-s.branch
+returns c = elim c.if-end-s.branch [ | then-end-s+else-s-end-eq46 w ↦ search (rules, unsigned_laws) | else-end-s w ↦ search (rules, unsigned_laws) ]

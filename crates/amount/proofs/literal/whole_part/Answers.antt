@@ -1,7 +1,7 @@
-use mathlib.Core.Logic.{⊎_elim}
 use Rattle.amount.proofs.LiteralLaws.{whole_laws}
 use borrow.Author.Rules.{rules}
 use Rattle.amount.proofs.literal.whole_part.Goals as goal
+use Rattle.amount.proofs.literal.whole_part.Goals.{then-size-lt1000000000, else-size-lt1000000000}
 
 pub loop-i-init : goal.loop-i-init
 loop-i-init c = search (rules, whole_laws)
@@ -31,7 +31,7 @@ pub loop-i-smaller-then-is_digit : goal.loop-i-smaller-then-is_digit
 loop-i-smaller-then-is_digit c = search (rules, whole_laws)
 
 pub loop-i-preserved-then-is_digit : goal.loop-i-preserved-then-is_digit
-loop-i-preserved-then-is_digit c = ⊎_elim (λ w. search (rules, whole_laws)) (λ w. search (rules, whole_laws)) c.if-size-lt1000000000.branch
+loop-i-preserved-then-is_digit c = elim c.if-size-lt1000000000.branch [ | then-size-lt1000000000 w ↦ search (rules, whole_laws) | else-size-lt1000000000 w ↦ search (rules, whole_laws) ]
 
 pub overflow_add-i-then-b-eq44 : goal.overflow_add-i-then-b-eq44
 overflow_add-i-then-b-eq44 c = search (rules, whole_laws)
