@@ -20,25 +20,51 @@ ghost use Rattle.replay.specs.Verdicts.{verdict};
 use call::Reply;
 use case::Case;
 use compare::Verdict;
+use std::io::Read;
 use tally::{Step, Tally};
 
 // How many cases that differ have a line of their own.
 const SHOWN: u64 = 20;
 
+// Reads until the buffer is full, the input ends or a read fails: how many bytes came to its front.
+fn read_full(input: &mut impl Read, buffer: &mut [u8]) -> usize
+    ensures { result ≤ length buffer.new }
+{
+    let mut done = 0;
+    while done < buffer.len() {
+        let n = match input.read(&mut buffer[done..]) {
+            Ok(n) => n,
+            Err(_) => 0,
+        };
+        if n == 0 {
+            break;
+        }
+        done += n;
+    }
+    done
+}
+
 // Whether so many bytes came into the front of a buffer.
-fn filled(buffer: &mut [u8], n: usize) -> bool
+fn filled(input: &mut impl Read, buffer: &mut [u8], n: usize) -> bool
     requires { n ≤ length buffer.old }
 {
-    io::read_full(0, &mut buffer[..n]) == n
+    read_full(input, &mut buffer[..n]) == n
 }
 
 // Whether the texts came, and the buffer before and after the call.
-fn body(texts: &mut [u8], lent: &mut [u8], after: &mut [u8], n: usize, t: usize) -> bool
+fn body(
+    input: &mut impl Read,
+    texts: &mut [u8],
+    lent: &mut [u8],
+    after: &mut [u8],
+    n: usize,
+    t: usize,
+) -> bool
     requires { (n ≤ length texts.old) × (t ≤ length lent.old) × (t ≤ length after.old) }
 {
-    if filled(texts, n) {
-        if filled(lent, t) {
-            return filled(after, t);
+    if filled(input, texts, n) {
+        if filled(input, lent, t) {
+            return filled(input, after, t);
         }
     }
     false
@@ -74,6 +100,8 @@ fn judged(
 
 // The case behind its header.
 fn whole(
+    rt: &impl Print,
+    input: &mut impl Read,
     number: u64,
     is_shown: bool,
     c: Case,
@@ -86,16 +114,18 @@ fn whole(
 ) -> Step
     requires { (c.first + c.second ≤ length texts.old) × (c.lent ≤ length lent.old) × (c.lent ≤ length spare.old) × (c.second ≤ length spare.old) × (c.second ≤ length work.old) × (c.lent ≤ length after.old) }
 {
-    if body(texts, lent, after, c.first + c.second, c.lent) {
+    if body(input, texts, lent, after, c.first + c.second, c.lent) {
         let v = judged(c, must, texts, lent, spare, work, after);
-        return report::told(number, is_shown, c.call, v);
+        return report::told(rt, number, is_shown, c.call, v);
     }
-    report::cut_off(number);
+    report::cut_off(rt, number);
     Step::Broken
 }
 
 // The next case, with its number.
 fn next(
+    rt: &impl Print,
+    input: &mut impl Read,
     number: u64,
     is_shown: bool,
     texts: &mut [u8; 65536],
@@ -105,17 +135,19 @@ fn next(
     after: &mut [u8; 65536],
 ) -> Step {
     let mut head = [0u8; 56];
-    let got = io::read_full(0, &mut head);
+    let got = read_full(input, &mut head);
     if got == 0 {
         return Step::End;
     }
     if got < case::HEAD {
-        report::cut_off(number);
+        report::cut_off(rt, number);
         return Step::Broken;
     }
     let c = case::case_of(&head);
     if case::fits(c.first, c.second, c.lent) {
         return whole(
+            rt,
+            input,
             number,
             is_shown,
             c,
@@ -127,11 +159,13 @@ fn next(
             after,
         );
     }
-    report::too_large(number);
+    report::too_large(rt, number);
     Step::Broken
 }
 
 fn replayed(
+    rt: &impl Print,
+    input: &mut impl Read,
     texts: &mut [u8; 65536],
     lent: &mut [u8; 65536],
     spare: &mut [u8; 65536],
@@ -142,6 +176,8 @@ fn replayed(
     let mut differing: u64 = 0;
     while cases < u64::MAX {
         let s = next(
+            rt,
+            input,
             cases + 1,
             differing < SHOWN,
             texts,
@@ -162,12 +198,15 @@ fn replayed(
     Tally { cases, differing }
 }
 
-fn main() {
-    let mut texts = io::large_buffer();
-    let mut lent = io::large_buffer();
-    let mut spare = io::large_buffer();
-    let mut work = io::large_buffer();
-    let mut after = io::large_buffer();
-    let t = replayed(&mut texts, &mut lent, &mut spare, &mut work, &mut after);
-    report::total(t.cases, t.differing);
+fn main(rt: HostRuntime) {
+    let mut texts = [0u8; 65536];
+    let mut lent = [0u8; 65536];
+    let mut spare = [0u8; 65536];
+    let mut work = [0u8; 65536];
+    let mut after = [0u8; 65536];
+    let mut input = rt.stdin();
+    let t = replayed(
+        &rt, &mut input, &mut texts, &mut lent, &mut spare, &mut work, &mut after,
+    );
+    report::total(&rt, t.cases, t.differing);
 }
