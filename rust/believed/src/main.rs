@@ -6,7 +6,8 @@
 //! and the ten longest. Then it names the definitions in `specs/` that neither a call's promise nor a statement
 //! reaches: such ones are steps, and stand in `specs/steps/`. Last it looks whether each name stands in the file that
 //! `docs/RULES.md` and `docs/LANGUAGE.md`, beside the folder, give for it. It fails where there is such a definition or
-//! name, where a call cites a step, and where a call or statement that it counts from is not there.
+//! name, where a call cites a step, where a call or statement that it counts from is not there, and where a call has
+//! not the same promise in `lumbrisse_c`, which hands it to C, word for word.
 
 mod pages;
 mod source;
@@ -73,6 +74,9 @@ const PAGES: [(&str, Claims); 3] = [
     ("LANGUAGE.md", pages::in_tables),
     ("LANGUAGE.md", pages::in_paragraphs),
 ];
+
+/// The crate that hands the exports to C: each call has its promise in `EXPORTS` already, in the same words.
+const FOR_C: &str = "lumbrisse_c";
 
 /// A program that makes the calls: nobody must believe it.
 const PROGRAM: &str = "replay";
@@ -194,7 +198,7 @@ impl Sources {
             return self.find(&import.krate, &import.module, name);
         }
         self.find(&import.krate, &import.module, &import.name)
-            .or_else(|| self.find(&import.krate, &import.module, import.name.trim_matches('_')))
+            .or_else(|| self.find(&import.krate, &import.module, import.name.trim_matches('◌')))
     }
 
     /// All that these definitions reach, themselves among them.
@@ -246,11 +250,34 @@ impl Sources {
         calls.chain(demands).collect()
     }
 
+    /// The calls that C has without the promise that they have in `EXPORTS`, word for word, or that it has not.
+    fn apart_for_c(&self) -> Vec<String> {
+        let of = |krate: &str| {
+            let files = self.contracts.iter().filter(|file| file.krate == krate);
+            let contracts = files.flat_map(|file| &file.found);
+            let calls = contracts.filter(|c| c.name.starts_with("lumbrisse_"));
+            let calls = calls.map(|c| (c.name.clone(), (c.requires.clone(), c.ensures.clone())));
+            calls.collect::<BTreeMap<_, _>>()
+        };
+        let (exports, for_c) = (of(EXPORTS), of(FOR_C));
+        let names: BTreeSet<&String> = exports.keys().chain(for_c.keys()).collect();
+        let apart = names
+            .into_iter()
+            .filter(|&name| exports.get(name) != for_c.get(name));
+        apart
+            .map(|name| format!("      {name} ({FOR_C})\n"))
+            .collect()
+    }
+
     /// The public functions whose contract names a step, as crate and name; and how many public functions there are.
     fn citing_steps(&self) -> (Vec<(&str, &str)>, usize) {
         let mut citing = Vec::new();
         let mut count = 0;
-        for file in self.contracts.iter().filter(|file| file.krate != PROGRAM) {
+        let aside = [PROGRAM, FOR_C];
+        for file in self.contracts.iter() {
+            if aside.contains(&file.krate.as_str()) {
+                continue;
+            }
             let is_step = |word: &str| {
                 let import = file.imports.get(word.split('.').next().unwrap_or(word));
                 import.is_some_and(|import| import.module.starts_with("steps."))
@@ -385,9 +412,16 @@ fn report(sources: &Sources) -> (String, bool) {
         absent.len()
     );
     out += &absent.concat();
+
+    let apart = sources.apart_for_c();
+    out += &format!(
+        "\nof the calls, not there for C with the same promise: {}\n",
+        apart.len()
+    );
+    out += &apart.concat();
     (
         out,
-        unused.is_empty() && calls.is_empty() && absent.is_empty(),
+        unused.is_empty() && calls.is_empty() && absent.is_empty() && apart.is_empty(),
     )
 }
 

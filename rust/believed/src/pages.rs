@@ -94,7 +94,7 @@ pub fn in_paragraphs(text: &str) -> Vec<Claim> {
 
 /// Whether a text has a name as a word of its own.
 fn has(text: &str, name: &str) -> bool {
-    let inner = |c: char| c.is_alphanumeric() || c == '_' || c == '-' || c == '′';
+    let inner = |c: char| c.is_alphanumeric() || c == '_' || c == '-' || c == '\'';
     text.match_indices(name).any(|(at, _)| {
         let ends = !text[at + name.len()..].starts_with(inner);
         ends && !text[..at].ends_with(inner)

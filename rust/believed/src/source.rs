@@ -37,11 +37,10 @@ pub struct Parsed {
     pub imports: HashMap<String, Import>,
 }
 
-/// `Rattle·CRATE.specs.MODULE..` or `Rattle·CRATE·specs.specs.MODULE..`: the crate and the module.
+/// `Rattle.CRATE.specs.MODULE..`: the crate and the module.
 fn place_of(path: &str) -> Option<(String, String)> {
-    let rest = path.strip_prefix("Rattle·")?;
+    let rest = path.strip_prefix("Rattle.")?;
     let (krate, rest) = rest.split_once('.')?;
-    let krate = krate.split('·').next()?;
     let module = rest.strip_prefix("specs.")?;
     Some((krate.to_string(), module.to_string()))
 }
@@ -64,8 +63,8 @@ fn import(line: &str, imports: &mut HashMap<String, Import>) {
                 module: module.clone(),
                 name: name.to_string(),
             };
-            // `_then_` is written `then` between its operands
-            imports.insert(local.trim_matches('_').to_string(), target);
+            // `◌then◌` is written `then` between its operands
+            imports.insert(local.trim_matches('◌').to_string(), target);
         }
         return;
     }
@@ -133,7 +132,7 @@ pub fn specification(krate: &str, module: &str, file: &str, text: &str) -> Parse
             definitions.push(Definition {
                 krate: krate.to_string(),
                 module: module.to_string(),
-                name: name.trim_matches('_').to_string(),
+                name: name.trim_matches('◌').to_string(),
                 file: file.to_string(),
                 constructors: Vec::new(),
                 text: vec![line.to_string()],
@@ -227,7 +226,7 @@ pub fn contracts(text: &str) -> (Vec<Contract>, HashMap<String, Import>) {
 
 /// The words of a line that may name something: what stands between blanks, brackets and signs. `.kind` is a field.
 pub fn words(line: &str) -> impl Iterator<Item = &str> {
-    line.split(|c: char| c.is_whitespace() || "(){}[],;λ⌜⌝|×⊎→∷&".contains(c))
+    line.split(|c: char| c.is_whitespace() || "(){}[],;λ|×⊎→∷&".contains(c))
         .filter(|word| !word.is_empty() && !word.starts_with('.'))
 }
 
@@ -235,7 +234,7 @@ pub fn words(line: &str) -> impl Iterator<Item = &str> {
 mod tests {
     use super::*;
 
-    const TEXT: &str = "-- Rule 0.\nuse Rattle·text.specs.Bytes.{isBlank, named as naming}\n\n-- one\nunfoldable pub gap : ℕ → Bool\ngap b = isBlank b\n\npub record Form : Type 0 where\n  pub kind : ℕ\n  pub date : ℕ\n\nmodule _ (s : List ℕ) where\n  abbrev pub two : ℕ\n  two = 2\n";
+    const TEXT: &str = "-- Rule 0.\nuse Rattle.text.specs.Bytes.{is_blank, named as naming}\n\n-- one\nunfoldable pub gap : ℕ → Bool\ngap b = is_blank b\n\npub record Form : Type 0 where\n  pub kind : ℕ\n  pub date : ℕ\n\nmodule _ (s : List ℕ) where\n  abbrev pub two : ℕ\n  two = 2\n";
 
     #[test]
     fn a_definition_has_its_lines_without_comments() {
@@ -259,7 +258,7 @@ mod tests {
 
     #[test]
     fn a_contract_is_its_ensures() {
-        let (found, imports) = contracts("ghost use Rattle·ledger.specs.Plain.{plain};\npub fn f(s: &[u8]) -> usize\n    ensures { λ r. r ≡ plain s }\n{\n}\n");
+        let (found, imports) = contracts("ghost use Rattle.ledger.specs.Plain.{plain};\npub fn f(s: &[u8]) -> usize\n    ensures value { result ≡ plain s.now }\n{\n}\n");
         assert_eq!(found[0].name, "f");
         assert!(words(&found[0].ensures[0]).any(|w| w == "plain"));
         assert_eq!(imports["plain"].module, "Plain");
