@@ -24,7 +24,7 @@ use Rattle.layout.proofs.Fronts.{sharp_digit, sharp_boundary, digit_tag}
 -- what is written behind the date p and a space, of an entry of kind k before r: its text, up to what follows the entry
 pub record Behind (k p : ℕ) (ks : List Item) (r : List ℕ) : Type 0 where
   pub line : List ℕ → List ℕ
-  pub goes_on_lem : (v : List ℕ) → line [] ++ v ≡ line v
+  pub goes_on : (v : List ℕ) → line [] ++ v ≡ line v
   pub tidy : (v : List ℕ) → Tidy v → Tidy (line v)
   pub blank : (v : List ℕ) → is_blank (get_or (line v) 0 0) ≡ false
   pub prints : (j : ℕ) (prev : Item) (ds : List Item) → ltb (kind_of ds) 20 ≡ true → printed j prev (own_item k p ∷ (ks ++ ds)) ≡ closing j ++ (date_text p ++ (32 ∷ line (printed 0 no_item ds)))

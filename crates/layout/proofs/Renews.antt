@@ -66,9 +66,9 @@ module _ (k : ℕ) (w : String) (content : List ℕ → ℕ → Rows) (W : Word 
   line : List ℕ → List ℕ
   line v = key_line w L.again L.metas v
 
-  goes_on_lem : (v : List ℕ) → line [] ++ v ≡ line v
+  goes_on : (v : List ℕ) → line [] ++ v ≡ line v
   unfolding line
-  goes_on_lem v =
+  goes_on v =
       append_assoc (bytes w) (32 ∷ (L.again.text ++ (10 ∷ metas_text L.metas []))) v
       ∙ ap (λ z. bytes w ++ (32 ∷ z)) (append_assoc L.again.text (10 ∷ metas_text L.metas []) v ∙ ap (λ z. L.again.text ++ (10 ∷ z)) (metas_behind L.metas [] v))
 
@@ -103,8 +103,8 @@ module _ (k : ℕ) (w : String) (content : List ℕ → ℕ → Rows) (W : Word 
   keyword_behind : Behind k p ks r
   keyword_behind = record {
     line = line;
-    goes_on_lem = goes_on_lem;
-    tidy = λ v h. subst Tidy (goes_on_lem v) (line_neat.before v h);
+    goes_on = goes_on;
+    tidy = λ v h. subst Tidy (goes_on v) (line_neat.before v h);
     blank = λ v. (sharp_small _ (line_first v)).blank;
     prints = row_prints;
     reads = row_reads_again;

@@ -85,9 +85,9 @@ module _ (s : List ℕ) (p n : ℕ) (r : List ℕ) (E : At s n r) (ks : List Ite
   unfolding behind
   behind_is v = metas_behind R.metas (posts_text R.posts []) v ∙ ap (metas_text R.metas) (posts_behind R.posts [] v)
 
-  goes_on_lem : (v : List ℕ) → line [] ++ v ≡ line v
+  goes_on : (v : List ℕ) → line [] ++ v ≡ line v
   unfolding line
-  goes_on_lem v = head_behind R.opened R.texts R.marks (behind []) v ∙ ap (head_text_of R.opened R.texts R.marks) (behind_is v)
+  goes_on v = head_behind R.opened R.texts R.marks (behind []) v ∙ ap (head_text_of R.opened R.texts R.marks) (behind_is v)
 
   line_tidy : (v : List ℕ) → Tidy v → Tidy (line v)
   unfolding line behind
@@ -124,7 +124,7 @@ module _ (s : List ℕ) (p n : ℕ) (r : List ℕ) (E : At s n r) (ks : List Ite
       subst (λ z. Made u (dateless p u g) 6 p z v) (sym R.is) (made_first _ (made 6 p (transaction_is R.opened R.texts R.marks R.metas R.posts v stop halt G)))
 
   transaction_behind : Behind 6 p ks r
-  transaction_behind = record { line = line; goes_on_lem = goes_on_lem; tidy = line_tidy; blank = line_blank; prints = row_prints; reads = row_reads_again }
+  transaction_behind = record { line = line; goes_on = goes_on; tidy = line_tidy; blank = line_blank; prints = row_prints; reads = row_reads_again }
 
 no_text : texted 6 ≡ false
 unfolding texted

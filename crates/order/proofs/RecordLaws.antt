@@ -83,7 +83,8 @@ records_joined (r ∷ rs) x z i h e =
     let l : length (x ++ r) ≡ suc i * record_width = rw (length-append, h.0) (omega arith) in
     let k : record_at (x ++ ((r ++ joined rs) ++ z)) i ≡ r =
     rw (drop_at x ((r ++ joined rs) ++ z) (i * record_width) e, append_assoc r (joined rs) z, take_at r (joined rs ++ z) record_width h.0) in
-    rw k (rw q (ap (λ (l : List (List ℕ)). r ∷ l) (records_joined rs (x ++ r) z (suc i) h.1 l)))
+    let s : records_from (x ++ ((r ++ joined rs) ++ z)) (suc i) (length rs) ≡ rs = rw q (records_joined rs (x ++ r) z (suc i) h.1 l) in
+    rw k (ap (λ (l : List (List ℕ)). r ∷ l) s)
 
 -- ---- sorted
 

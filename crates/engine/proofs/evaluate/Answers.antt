@@ -40,10 +40,10 @@ pub operand-next-requires : goal.operand-next-requires
 operand-next-requires c = search (rules, turn_laws)
 
 pub loop-next-smaller-in-Operand : goal.loop-next-smaller-in-Operand
-loop-next-smaller-in-Operand c = less_operand _ _ _ _ _ _ c.loop-next.invariant _ _ _ c.next-in-Operand-1.given.1 c.operand-next.ensures
+loop-next-smaller-in-Operand c = less_operand _ _ _ _ _ _ c.loop-next.invariant _ _ _ c.in-Operand.is c.operand-next.ensures
 
 pub loop-next-preserved-in-Operand : goal.loop-next-preserved-in-Operand
-loop-next-preserved-in-Operand c = kept_operand _ _ _ _ _ _ c.loop-next.invariant _ _ _ c.next-in-Operand-1.given.1 c.operand-next.ensures
+loop-next-preserved-in-Operand c = kept_operand _ _ _ _ _ _ c.loop-next.invariant _ _ _ c.in-Operand.is c.operand-next.ensures
 
 pub enum_known-next-in-Group-1 : goal.enum_known-next-in-Group-1
 enum_known-next-in-Group-1 c = search (rules, turn_laws)
@@ -68,10 +68,10 @@ pub run-requires : goal.run-requires
 run-requires c = search (rules, turn_laws)
 
 pub loop-next-smaller-in-Group : goal.loop-next-smaller-in-Group
-loop-next-smaller-in-Group c = less_group _ _ _ _ _ _ c.loop-next.invariant _ _ c.run.result c.next-in-Group-1.given.1 (search rules)
+loop-next-smaller-in-Group c = less_group _ _ _ _ _ _ c.loop-next.invariant _ _ c.run.result c.in-Group.is (search rules)
 
 pub loop-next-preserved-in-Group : goal.loop-next-preserved-in-Group
-loop-next-preserved-in-Group c = kept_group _ _ _ _ _ _ c.loop-next.invariant _ _ c.run.result _ c.next-in-Group-1.given.1 (omega arith) refl (search rules)
+loop-next-preserved-in-Group c = kept_group _ _ _ _ _ _ c.loop-next.invariant _ _ c.run.result _ c.in-Group.is (omega arith) refl (search rules)
 
 pub enum_known-next-in-Done-next-2 : goal.enum_known-next-in-Done-next-2
 enum_known-next-in-Done-next-2 c = search (rules, turn_laws)
@@ -93,10 +93,10 @@ pub shut-next-requires : goal.shut-next-requires
 shut-next-requires c = search (rules, turn_laws)
 
 pub loop-next-smaller : goal.loop-next-smaller
-loop-next-smaller c = less_done _ _ _ _ _ _ c.loop-next.invariant _ _ _ _ c.next-in-Done-next-2-1.given.1 c.shut-next.ensures
+loop-next-smaller c = less_done _ _ _ _ _ _ c.loop-next.invariant _ _ _ _ c.in-Done-next.is c.shut-next.ensures
 
 pub loop-next-preserved : goal.loop-next-preserved
-loop-next-preserved c = kept_done _ _ _ _ _ _ c.loop-next.invariant _ _ _ _ c.next-in-Done-next-2-1.given.1 c.if-depth-eq0.false (search rules) c.shut-next.ensures
+loop-next-preserved c = kept_done _ _ _ _ _ _ c.loop-next.invariant _ _ _ _ c.in-Done-next.is c.if-depth-eq0.false (search rules) c.shut-next.ensures
 
 pub enum_known-next-in-Missed-1 : goal.enum_known-next-in-Missed-1
 enum_known-next-in-Missed-1 c = search (rules, turn_laws)

@@ -1,0 +1,9 @@
+use Rattle.content.proofs.OpenLaws.{gap_currency_laws}
+use borrow.Author.Rules.{rules}
+use Rattle.content.proofs.open.gap_currency.Goals as goal
+
+pub returns-in-To : goal.returns-in-To
+returns-in-To c = search (rules, gap_currency_laws)
+
+pub returns-in-Miss : goal.returns-in-Miss
+returns-in-Miss c = search (rules, gap_currency_laws)

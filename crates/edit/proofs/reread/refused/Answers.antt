@@ -1,0 +1,22 @@
+use Rattle.edit.proofs.JudgeLaws.{refuse_laws}
+use borrow.Author.Rules.{rules}
+use borrow.Author.Rules.{rules}
+use Rattle.edit.proofs.reread.refused.Goals as goal
+
+pub returns-then-old-gt-SIZE : goal.returns-then-old-gt-SIZE
+returns-then-old-gt-SIZE c = search (rules, refuse_laws)
+
+pub returns-then-is_large : goal.returns-then-is_large
+returns-then-is_large c = search (rules, refuse_laws)
+
+pub returns-then-is_new : goal.returns-then-is_new
+returns-then-is_new c = search (rules, refuse_laws)
+
+pub returns-else-is_new : goal.returns-else-is_new
+returns-else-is_new c = search (rules, refuse_laws)
+
+pub returns-else-k-rows : goal.returns-else-k-rows
+returns-else-k-rows c = search (rules, refuse_laws)
+
+pub returns-else-is_block : goal.returns-else-is_block
+returns-else-is_block c = search (rules, refuse_laws)

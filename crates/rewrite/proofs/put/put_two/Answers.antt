@@ -1,0 +1,6 @@
+use Rattle.rewrite.proofs.PutLaws.{put_laws}
+use borrow.Author.Rules.{rules}
+use Rattle.rewrite.proofs.put.put_two.Goals as goal
+
+pub returns : goal.returns
+returns c = search (rules, put_laws)
