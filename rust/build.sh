@@ -31,21 +31,25 @@ step() {
     fail "failed: $what (all of it: $log)"
 }
 
-# Whether a built file is missing, or older than a file that it is built from.
+# Whether a built file is missing, or older than a file that it is built from. What rt makes of a crate, its folder out/,
+# is none.
 outdated() {
     built=$1
     shift
-    [ ! -f "$built" ] || [ -n "$(find "$@" -type f -newer "$built" -print 2>/dev/null | head -n 1)" ]
+    [ ! -f "$built" ] ||
+        [ -n "$(find "$@" -name out -prune -o -type f -newer "$built" -print 2>/dev/null | head -n 1)" ]
 }
 
-# The archive, where it is outdated: a line of rt's for each crate, as the first time takes long.
+# The archive, where it is outdated: rt's own lines are shown, as the first time takes long. rt leaves
+# liblumbrisse_c.a beside the crate.
 need_archive() {
     outdated "$archive" "$root/crates" "$root/crates.txt" || return 0
     command -v rt >/dev/null 2>&1 || fail "the Rattle kit is missing: there is no rt on the path"
-    say "proving and compiling the reader (rt staticlib lumbrisse)"
-    mkdir -p "$root/target"
-    { (cd "$root" && rt staticlib lumbrisse 2>&1) && echo "$name: built"; } | tee "$log" | grep '^rt:' >&2 || :
-    [ "$(tail -n 1 "$log")" = "$name: built" ] || fail "rt staticlib lumbrisse failed: see $log"
+    say "proving and compiling the reader (rt lib in crates/lumbrisse_c)"
+    mkdir -p "$(dirname "$archive")"
+    { (cd "$root/crates/lumbrisse_c" && rt lib 2>&1) && echo "$name: built"; } | tee "$log" | grep '^rt:' >&2 || :
+    [ "$(tail -n 1 "$log")" = "$name: built" ] || fail "rt lib failed in crates/lumbrisse_c: see $log"
+    cp "$root/crates/lumbrisse_c/out/liblumbrisse_c.a" "$archive"
 }
 
 has_cross() {

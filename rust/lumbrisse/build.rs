@@ -1,4 +1,4 @@
-//! Links `liblumbrisse.a`, the archive that `rt staticlib lumbrisse` writes.
+//! Links `liblumbrisse.a`, the archive of the proved reader, which `rust/build.sh` has `rt` make.
 
 use std::env;
 use std::path::{Path, PathBuf};
@@ -33,7 +33,7 @@ fn main() -> ExitCode {
     }
     if !archive.is_file() {
         eprintln!("The proved reader is missing: {}", archive.display());
-        eprintln!("Write it with `rt staticlib lumbrisse` at the repository's root, or name its folder in {FOLDER}.");
+        eprintln!("The script ./lumbrisse at the repository's root makes it, or name its folder in {FOLDER}.");
         return ExitCode::FAILURE;
     }
     println!("cargo:rustc-link-search=native={}", folder.display());

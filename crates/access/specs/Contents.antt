@@ -1,5 +1,5 @@
 -- String content without its escapes. Content is valid if rule 5, given it between quotes, reads all of it.
-use Rattle.std.specs.Prelude.{ℕ, ◌+◌, Bool, true, false, cond, List, [], ◌∷◌, ◌++◌, eqb, leb, length, drop}
+use Rattle.std.specs.Prelude.{ℕ, ◌+◌, Bool, false, cond, List, [], ◌∷◌, ◌++◌, eqb, leb, length, drop}
 use Prim.Native.Char.{code}
 use Rattle.text.specs.Strings.{string_at}
 use Rattle.text.specs.declared.Read.{Read}

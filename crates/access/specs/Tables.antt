@@ -1,5 +1,5 @@
 -- Rows of a table: one by its number, and whether a tag is in force.
-use Rattle.std.specs.Prelude.{ℕ, zero, suc, ◌+◌, ◌-◌, ◌*◌, Bool, true, false, cond, ◌&&◌, ◌||◌, List, [], ◌∷◌, eqb, ltb, leb, length}
+use Rattle.std.specs.Prelude.{ℕ, zero, suc, ◌+◌, ◌-◌, ◌*◌, Bool, true, false, cond, ◌&&◌, ◌||◌, List, [], ◌∷◌, eqb, ltb, leb}
 use Rattle.row.specs.declared.table.Row.{Row}
 use Rattle.row.specs.Field.{field_at}
 use Rattle.row.specs.Row.{at_kind, at_start, at_end, at_line, at_p, at_q, at_value, width, room}

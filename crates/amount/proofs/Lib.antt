@@ -16,3 +16,4 @@ pub mod AmountLaws
 pub mod RowCounts
 pub mod AmountFew
 pub mod OneRows
+pub mod Examples

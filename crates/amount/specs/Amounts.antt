@@ -1,6 +1,6 @@
 -- Rule 10: amounts, and the content of a price directive. A required part's miss is refusal 4.
 use Rattle.std.specs.Prelude.{ℕ, List, [], ◌∷◌}
-use Rattle.text.specs.Answer.{Ans, To, Miss, Hard, ◌then◌, ◌and◌, must}
+use Rattle.text.specs.Answer.{To, ◌then◌, ◌and◌, must}
 use Rattle.text.specs.Leaves.{gap, hard_gap, currency}
 use Rattle.text.specs.Refusals.{required_number}
 use Rattle.amount.specs.Kinds.{amount_kind, currency_kind}

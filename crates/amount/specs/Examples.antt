@@ -1,15 +1,12 @@
--- Document 01's edges of expressions, and the examples of the decided points 4, 5, 6, 8 and 9: one list under one
--- statement, by computation.
-use Rattle.std.specs.Prelude.{ℕ, ◌≡◌, refl, true, false, List, [], ◌∷◌, ◌++◌, map, replicate}
+-- Document 01's edges of expressions, and the examples of the decided points 4, 5, 6, 8 and 9: one list,
+-- under one statement in `proofs/Examples.antt`, by computation.
+use Rattle.std.specs.Prelude.{ℕ, true, false, List, [], ◌∷◌, ◌++◌, replicate}
 use Prim.Native.Char.{code}
 use Prim.Native.String.{String}
-use Rattle.decimal.specs.declared.Form.TheVariants.{Exact}
 use Rattle.decimal.specs.declared.Value.{Value}
 use Rattle.decimal.specs.declared.Value.TheVariants.{Known, Refused}
 use Rattle.text.specs.Bytes.{bytes}
 use Rattle.text.specs.Answer.{Ans, To, Miss, Hard}
-use Rattle.amount.specs.Expression.{expression_in}
-use Rattle.amount.specs.Opened.{opened}
 
 -- a text, and the reading at its start
 abbrev Example : Type 0
@@ -95,8 +92,3 @@ depths =
 
 unfoldable pub examples : List Example
 examples = edges ++ leading ++ literals ++ orders ++ depths
-
--- every example reads as it says, in the exact form
-pub examples_read : map (λ x. expression_in Exact x.0 0) examples ≡ map (λ x. x.1) examples
-unfolding opened examples
-examples_read = refl

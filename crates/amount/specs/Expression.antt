@@ -1,7 +1,7 @@
 -- Rule 8. Expression: `-`, blanks, group (a negation, ending there), else a sum of products of atoms, left to right,
 -- blanks around operators. Atom: literal or group. Group: `(`, blanks, expression, blanks, `)`. An expression may hold
 -- a group and a group holds an expression. A reading gives its end with its value or the value's refusal.
-use Rattle.std.specs.Prelude.{ℕ, zero, suc, ◌+◌, Bool, true, false, cond, ◌||◌, List, eqb, get_or, length}
+use Rattle.std.specs.Prelude.{ℕ, zero, suc, ◌+◌, Bool, cond, ◌||◌, List, eqb, get_or, length}
 use Prim.Native.Char.{code}
 use Rattle.decimal.specs.Exact.{negated, sum, difference, product, quotient}
 use Rattle.decimal.specs.declared.Form.{Form}

@@ -3,7 +3,7 @@ use Prim.Native.Nat.{ℕ, ◌+◌, ◌-◌}
 use native.Mathlib.Omega.{arith}
 use mathlib.Core.Path.{◌≡◌, refl}
 use mathlib.Core.List.{List, [], ◌∷◌}
-use Rattle.text.specs.Answer.{To, Miss, Hard, ◌then◌, must, ◌and◌}
+use Rattle.text.specs.Answer.{To, must, ◌and◌}
 use Rattle.text.specs.Leaves.{token, gap, hard_gap, string, currency}
 use Rattle.text.specs.steps.Accounts.{account_at, account_answer}
 use Rattle.text.specs.Lines.{gap_at}

@@ -1,12 +1,12 @@
 -- The open directive as it is read and written, each answer from what the code knows where it gives it.
-use Prim.Native.Nat.{ℕ, suc, ◌+◌, ◌-◌, ◌≤◌, ◌<◌}
+use Prim.Native.Nat.{ℕ, suc, ◌+◌, ◌-◌, ◌≤◌}
 use native.Mathlib.Omega.{arith}
-use mathlib.Core.Path.{◌≡◌, refl, sym, ◌∙◌, ap, subst}
+use mathlib.Core.Path.{◌≡◌, refl, sym, ap, subst}
 use mathlib.Core.List.{List, [], ◌∷◌}
 use lib.ListN.{length}
 use Rattle.text.specs.Bytes.{is_blank}
 use Rattle.text.specs.Run.{blanks}
-use Rattle.text.specs.Answer.{To, Miss, Hard, ◌and◌, maybe}
+use Rattle.text.specs.Answer.{To, Miss, ◌and◌, maybe}
 use Rattle.text.specs.Leaves.{gap, comma, string, currency}
 use Rattle.text.specs.Lines.{gap_at, comma_at}
 use Rattle.text.specs.Strings.{string_at}

@@ -1,11 +1,10 @@
--- The definitions tried on closed inputs, as one list under one statement, by computation.
-use Rattle.std.specs.Prelude.{ℕ, ◌≡◌, refl, true, false, List, [], ◌∷◌, map}
+-- The definitions tried on closed inputs: one list, under one statement in `proofs/Examples.antt`, by computation.
+use Rattle.std.specs.Prelude.{ℕ, true, false, List, [], ◌∷◌}
 use Rattle.decimal.specs.declared.Form.TheVariants.{Exact, Rounding}
 use Rattle.decimal.specs.declared.Decimal.{Decimal}
 use Rattle.decimal.specs.declared.Value.{Value}
 use Rattle.decimal.specs.declared.Value.TheVariants.{Known, Refused}
-use Rattle.decimal.specs.Rounding.{rounded_of, nearest_size, nearest}
-use Rattle.decimal.specs.Exact.{decimal_of, exact, exactly, value_in, negated, sum, difference, product, quotient}
+use Rattle.decimal.specs.Exact.{negated, sum, difference, product, quotient}
 
 -- so many millionths, and as many below zero
 abbrev up : ℕ → Decimal
@@ -43,7 +42,3 @@ examples =
     ∷ (product Rounding (up 666666666666667) (up 1500000), Refused 6)
     ∷ (product Rounding (up 666666666666666) (up 1500000), Known (up 999999999999999))
     ∷ []
-
-pub examples_hold : map (λ e. e.0) examples ≡ map (λ e. e.1) examples
-unfolding decimal_of exact exactly rounded_of nearest_size nearest value_in negated sum difference product quotient
-examples_hold = refl

@@ -1,5 +1,5 @@
 -- The rows of the new bytes: counted, and put at their place.
-use Prim.Native.Nat.{ℕ, ◌+◌, ◌*◌, ◌-◌, ◌≤◌}
+use Prim.Native.Nat.{ℕ, ◌+◌, ◌*◌, ◌≤◌}
 use native.Mathlib.Nat.{add-zero}
 use native.Mathlib.Omega.{arith}
 use mathlib.Core.Path.{◌≡◌, refl, sym, ◌∙◌, ap}
@@ -11,7 +11,7 @@ use lib.ListN.{length, drop, length-map}
 use lib.Seq.{drop_at}
 use Rattle.text.specs.Permitted.{size_limit}
 use Rattle.row.specs.declared.table.Row.{Row}
-use Rattle.row.specs.Row.{width, row_bytes, rows_bytes, row_in, feeds, room, bytes_of}
+use Rattle.row.specs.Row.{width, row_bytes, rows_bytes, row_in, room, bytes_of}
 use Rattle.row.specs.steps.Pouring.{pour}
 use Rattle.row.proofs.PourLaws.{length_row_bytes, length_pour, pour_all}
 use Rattle.ledger.specs.Plain.{Reading, accepted, denied}

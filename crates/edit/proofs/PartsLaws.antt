@@ -10,15 +10,14 @@ use mir.Syntax.{w64}
 use mir.Val.{Fits}
 use Rattle.text.specs.Permitted.{size_limit}
 use Rattle.row.specs.declared.table.Row.{Row}
-use Rattle.row.specs.Row.{width, row_in, feeds}
+use Rattle.row.specs.Row.{width, row_in}
 use Rattle.row.specs.steps.Pouring.{pour, pour_at}
 use Rattle.row.proofs.PourLaws.{length_pour, length_pour_at, pour_append, pour_at_at, pour_at_append}
-use Rattle.edit.specs.Edits.{before}
 use Rattle.text.proofs.Steps.{rest_of}
 use Rattle.edit.specs.declared.pick.Pick.{Pick}
 use Rattle.edit.specs.declared.reread.Plan.{Plan}
 use Rattle.edit.specs.declared.reread.Counts.{Counts}
-use Rattle.edit.specs.steps.Moving.{shift_by, picks, picked, picked_rows, by, before_rows, new_rows, behind_rows, plan_rows, Ready, Fresh, Counted}
+use Rattle.edit.specs.steps.Moving.{shift_by, picks, picked, picked_rows, before_rows, new_rows, behind_rows, plan_rows, Ready, Fresh, Counted}
 use Rattle.edit.proofs.FreshLaws.{few, length_at}
 
 few_picked : (p : Pick) (k : ℕ) (t : List ℕ) → length (picked_rows p k t) ≤ k

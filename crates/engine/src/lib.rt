@@ -81,7 +81,8 @@ fn fallen(f: Frame, form: Form) -> Answer
     }
 }
 
-// What is pending, with the operand v, is one value.
+// What is pending, with the operand v, is one value. Inlined, since a frame of its own would stand on the stack too.
+#[inline(always)]
 fn total(f: Frame, v: Value, form: Form) -> Value
     ensures { result ≡ total_of (combined form) f v }
 {

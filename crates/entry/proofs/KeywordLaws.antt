@@ -9,7 +9,7 @@ use lib.Dec.{eqb}
 use lib.ListN.{length, drop}
 use Rattle.text.specs.Bytes.{bytes}
 use Rattle.text.specs.Words.{starts_with, word_at}
-use Rattle.text.specs.Answer.{Ans, To, Miss, ◌and◌, ◌else◌}
+use Rattle.text.specs.Answer.{Ans, Miss, ◌and◌, ◌else◌}
 use Rattle.text.specs.Leaves.{token, word}
 use Rattle.text.proofs.TokenEnds.{word_reach}
 use Rattle.text.proofs.Joins.{Reach, else_none}

@@ -1,6 +1,5 @@
 -- The rows of an entry, with places and lines counted from its start; the values of its rows; its refusals.
-use Rattle.std.specs.Prelude.{ℕ, ◌+◌, Bool, cond, List, [], ◌∷◌, map, eqb, ℤ, pos, length, take}
-use Rattle.decimal.specs.declared.Value.{Value}
+use Rattle.std.specs.Prelude.{ℕ, cond, List, [], ◌∷◌, map, eqb, pos, length, take}
 use Rattle.decimal.specs.declared.Value.TheVariants.{Known, Refused}
 use Rattle.text.specs.Answer.{Ans, To, Miss, Hard}
 use Rattle.text.specs.Refusals.{deep_number}

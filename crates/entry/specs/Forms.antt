@@ -1,5 +1,5 @@
 -- Rules 1 and 4: one entry at the front of a text.
-use Rattle.std.specs.Prelude.{ℕ, ◌+◌, Bool, cond, List, [], eqb, get_or}
+use Rattle.std.specs.Prelude.{ℕ, ◌+◌, cond, List, [], eqb, get_or}
 use Prim.Native.Char.{code}
 use Rattle.text.specs.Bytes.{in_line}
 use Rattle.text.specs.Run.{run_to}

@@ -9,7 +9,7 @@ use lib.Dec.{leb}
 use lib.ListN.{get_or, drop}
 use Rattle.text.specs.Bytes.{is_digit}
 use Rattle.text.specs.Dates.{as_shape, like_shape, date_shape, two, date_in, date_at}
-use Rattle.text.specs.Answer.{To, Miss}
+use Rattle.text.specs.Answer.{To}
 use Rattle.text.specs.Leaves.{date, dated}
 use Rattle.text.specs.declared.date.Dated.{Dated}
 use Rattle.text.proofs.DayLaws.{Day}

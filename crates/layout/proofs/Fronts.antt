@@ -1,7 +1,7 @@
 -- Where the output goes on with an entry's own word, or ends, no line of the entry before goes on.
 use Prim.Native.Nat.{ℕ, ◌<◌}
 use native.Mathlib.Omega.{arith}
-use mathlib.Core.Bool.{◌&&◌, not, false, true, Bool, cond, ◌||◌, or-true, and-false}
+use mathlib.Core.Bool.{not, false, true, Bool, cond, ◌||◌, or-true, and-false}
 use mathlib.Core.Path.{◌≡◌, refl}
 use mathlib.Core.List.{List, []}
 use borrow.Author.Tests.{lt-leb, leb-true, ne_eqb, ltb-true}

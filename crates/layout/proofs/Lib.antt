@@ -33,3 +33,4 @@ pub mod StringTwins
 pub mod EntryTwins
 pub mod Blanks
 pub mod Rewrites
+pub mod Examples

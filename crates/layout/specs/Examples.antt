@@ -1,11 +1,9 @@
--- The writer's definitions tried on closed ledgers, by computation.
-use Rattle.std.specs.Prelude.{ℕ, ◌≡◌, refl, List, [], ◌∷◌, map}
+-- Closed ledgers on which `proofs/Examples.antt` tries the writer's definitions, by computation.
+use Rattle.std.specs.Prelude.{ℕ, List, [], ◌∷◌, map}
 use Prim.Native.String.{String}
 use Rattle.text.specs.Bytes.{bytes}
 use Rattle.row.specs.declared.table.Row.{Row}
 use Rattle.ledger.specs.Plain.{Reading, accepted, denied, plain}
-use Rattle.ledger.specs.Opened.{opened}
-use Rattle.layout.specs.Meaning
 use Rattle.layout.specs.Written
 
 -- ledgers with every kind of row, and what is written of each
@@ -40,10 +38,10 @@ abbrev written_of : List ℕ → Reading → List ℕ
 written_of s (accepted rs) = Written.written s rs
 written_of s (denied n p) = []
 
-abbrev afresh : List ℕ → List ℕ
+abbrev pub afresh : List ℕ → List ℕ
 afresh s = written_of s (plain s)
 
-abbrev kinds_of : Reading → List ℕ
+abbrev pub kinds_of : Reading → List ℕ
 kinds_of (accepted rs) = map (λ (r : Row). r.kind) rs
 kinds_of (denied n p) = []
 
@@ -52,13 +50,5 @@ kinds_of (denied n p) = []
 abbrev pub quoted : List ℕ
 quoted = bytes "option \"\" \"\n0000-01-01 *;\"x\n\"\n"
 
-abbrev Found : Type 0
+abbrev pub Found : Type 0
 Found = List (List ℕ) × List ℕ × List ℕ
-
-pub ledgers_written : ◌≡◌ {A = Found} (map (λ e. afresh (bytes e.0)) ledgers, kinds_of (plain quoted), kinds_of (plain (afresh quoted)))
-    (map (λ e. bytes e.1) ledgers, 1 ∷ 6 ∷ 20 ∷ 1 ∷ [], 2 ∷ 34 ∷ 34 ∷ [])
-unfolding opened Meaning.texted Meaning.naming Meaning.item_of Meaning.meaning Written.whole_text Written.zeros
-    Written.trimmed Written.six Written.fraction_text Written.size_text Written.value_text Written.date_text
-    Written.quotes Written.sum_text Written.brace_end Written.amount_text Written.meta_text Written.posting_text
-    Written.head_text Written.detail_text Written.closing Written.printed Written.written
-ledgers_written = refl

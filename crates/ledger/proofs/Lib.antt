@@ -14,3 +14,4 @@ pub mod StrictScan
 pub mod PassLaws
 pub mod StrictProved
 pub mod PlainRefusals
+pub mod Examples

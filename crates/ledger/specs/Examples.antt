@@ -1,11 +1,10 @@
--- The definitions of plain and strict reading tried on closed ledgers, under one statement, by computation.
-use Rattle.std.specs.Prelude.{ℕ, ◌≡◌, refl, List, [], ◌∷◌, map, ℤ, pos, negsuc}
+-- Closed ledgers on which `proofs/Examples.antt` tries the definitions of plain and strict reading, under one
+-- statement, by computation.
+use Rattle.std.specs.Prelude.{ℕ, List, [], ◌∷◌, ℤ, pos, negsuc}
 use Rattle.text.specs.Bytes.{bytes}
 use Rattle.row.specs.declared.table.Row.{Row}
 use Rattle.row.specs.Row.{row_of}
-use Rattle.ledger.specs.Plain.{Reading, accepted, denied, plain}
-use Rattle.ledger.specs.Strict.{strict}
-use Rattle.ledger.specs.Opened.{opened}
+use Rattle.ledger.specs.Plain.{Reading, accepted, denied}
 
 abbrev row : ℕ → ℕ → ℕ → ℕ → ℕ → ℕ → ℤ → Row
 row k a e l p q v = row_of k a e l p q v
@@ -68,7 +67,7 @@ ledgers =
 abbrev Verdict : Type 0
 Verdict = ℕ × ℕ
 
-abbrev verdict : Reading → Verdict
+abbrev pub verdict : Reading → Verdict
 verdict (accepted rs) = (0, 0)
 verdict (denied n p) = (n, p)
 
@@ -94,9 +93,5 @@ strict_ledgers =
     ∷ (bytes "1\n; c", (5, 2))
     ∷ []
 
-abbrev Found : Type 0
+abbrev pub Found : Type 0
 Found = List Reading × List Verdict
-
-pub ledgers_read : ◌≡◌ {A = Found} (map (λ e. plain e.0) ledgers, map (λ e. verdict (strict e.0)) strict_ledgers) (map (λ e. e.1) ledgers, map (λ e. e.1) strict_ledgers)
-unfolding opened
-ledgers_read = refl

@@ -1,10 +1,10 @@
 -- Plain reading.
-use Rattle.std.specs.Prelude.{ℕ, zero, suc, ◌+◌, Bool, true, false, cond, List, [], ◌∷◌, ◌++◌, map, eqb, leb, ltb, length, take, drop}
+use Rattle.std.specs.Prelude.{ℕ, zero, suc, ◌+◌, cond, List, [], ◌∷◌, ◌++◌, map, leb, ltb, length, take, drop}
 use Rattle.text.specs.Permitted.{clean, size_limit}
 use Rattle.row.specs.declared.table.Row.{Row}
 use Rattle.row.specs.Row.{feeds}
 use Rattle.row.specs.Details.{spanned}
-use Rattle.entry.specs.Entry.{Reads, got, refuse, entry_of}
+use Rattle.entry.specs.Entry.{got, refuse, entry_of}
 
 -- a row, a bytes and l lines further on
 unfoldable pub move : ℕ → ℕ → Row → Row

@@ -15,9 +15,7 @@ use Rattle.access.specs.declared.tables.Force.{Force}
 use Rattle.bus.specs.declared.packet.Step.{Step}
 use Rattle.access.proofs.SpanLaws.{good_start, text_good, text_bad}
 use Rattle.lumbrisse.specs.declared.reply.Reply.{Reply}
-use Rattle.lumbrisse.specs.declared.reply.Evaluated.{Evaluated}
 use Rattle.lumbrisse.specs.declared.reply.Handed.{Handed}
-use Rattle.lumbrisse.specs.declared.reply.Part.{Part}
 use Rattle.lumbrisse.specs.Numbers.{replied, reply_of, totals_reply, rewrite_reply, written_reply, force_reply, evaluated_of, part_of, handed_by, handed_of}
 
 module _ (r : Reply) where

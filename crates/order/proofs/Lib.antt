@@ -10,3 +10,4 @@ pub mod RunLaws
 pub mod PermLaws
 pub mod SaidLaws
 pub mod ClaimsProved
+pub mod Examples

@@ -11,7 +11,7 @@ use lib.ListN.{length, get_or}
 use Rattle.decimal.specs.declared.Value.{Value}
 use Rattle.text.specs.Bytes.{is_small, in_tag}
 use Rattle.text.specs.Run.{run_to}
-use Rattle.text.specs.Answer.{To, Miss, Hard, more, ◌then◌, ◌else◌, ◌and◌}
+use Rattle.text.specs.Answer.{To, more, ◌then◌, ◌else◌, ◌and◌}
 use Rattle.text.specs.Leaves.{token, gap, currency, string, line_end}
 use Rattle.text.specs.Lines.{gap_at, line_end_at}
 use Rattle.text.specs.Strings.{string_at}

@@ -5,7 +5,7 @@ use mathlib.Core.Path.{◌≡◌, refl}
 use mathlib.Core.List.{List, [], ◌∷◌}
 use borrow.Author.Tests.{le-ltb}
 use lib.ListN.{length}
-use Rattle.text.specs.Answer.{To, Miss, Hard, ◌else◌}
+use Rattle.text.specs.Answer.{Miss, ◌else◌}
 use Rattle.text.specs.Leaves.{token, gap, empty_line}
 use Rattle.text.specs.Lines.{gap_at, empty_at}
 use Rattle.text.specs.declared.Read.{Read}

@@ -9,7 +9,7 @@ use lib.Dec.{ltb, leb}
 use lib.ListN.{length, get_or}
 use Rattle.text.specs.Bytes.{is_digit, is_small, is_capital, starts_part}
 use Rattle.text.specs.Run.{blanks}
-use Rattle.text.specs.Answer.{To, Miss, ◌and◌, ◌else◌}
+use Rattle.text.specs.Answer.{Miss, ◌and◌, ◌else◌}
 use Rattle.text.specs.Leaves.{token, gap, empty_line}
 use Rattle.text.specs.Lines.{gap_at, comment_end, eol_at, line_end_at, empty_at}
 use Rattle.text.specs.declared.Read.{Read}

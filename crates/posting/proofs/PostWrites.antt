@@ -5,7 +5,7 @@ use mathlib.Core.Path.{◌≡◌, refl, ◌∙◌, ap}
 use mathlib.Core.Bool.{Bool, true, false, cond}
 use mathlib.Core.List.{List, [], ◌∷◌}
 use lib.ListN.{get_or}
-use Rattle.text.specs.Answer.{Ans, To, Miss, Hard, ◌then◌, ◌else◌, ◌and◌, maybe}
+use Rattle.text.specs.Answer.{Ans, To, Miss, ◌then◌, ◌else◌, ◌and◌, maybe}
 use Rattle.text.specs.Leaves.{token, gap, line_end}
 use Rattle.text.specs.steps.Accounts.{account_at}
 use Rattle.text.specs.Lines.{gap_at, line_end_at}

@@ -11,7 +11,7 @@ use lib.ListN.{length, drop, get_or, length-append}
 use lib.Seq.{get_or-drop}
 use Rattle.text.specs.Bytes.{is_digit, is_small, is_ordinary, is_escaped}
 use Rattle.text.specs.Strings.{str_from, esc_from, string_at}
-use Rattle.text.specs.Answer.{To, Miss, more, ◌and◌}
+use Rattle.text.specs.Answer.{To, more, ◌and◌}
 use Rattle.text.specs.Leaves.{token, string}
 use Rattle.text.specs.declared.Read.{Read}
 use Rattle.text.proofs.TestLaws.{absurd_bool}

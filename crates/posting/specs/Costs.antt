@@ -1,5 +1,5 @@
 -- Rules 12 and 13: the price and the cost of a posting.
-use Rattle.std.specs.Prelude.{ℕ, ◌+◌, List, [], ◌∷◌}
+use Rattle.std.specs.Prelude.{ℕ, List, [], ◌∷◌}
 use Prim.Native.Char.{code}
 use Rattle.text.specs.Run.{blanks}
 use Rattle.text.specs.Answer.{Ans, To, ◌then◌, ◌and◌, ◌else◌}

@@ -3,7 +3,7 @@ use Rattle.std.specs.Prelude.{ℕ, suc, ◌+◌, cond, List, [], ◌∷◌, leng
 use Prim.Native.Char.{code}
 use Rattle.text.specs.Bytes.{is_small, in_tag}
 use Rattle.text.specs.Run.{run_to}
-use Rattle.text.specs.Answer.{To, Miss, ◌then◌, ◌and◌, ◌else◌, many}
+use Rattle.text.specs.Answer.{To, ◌then◌, ◌and◌, ◌else◌, many}
 use Rattle.text.specs.Leaves.{gap, currency, byte, line_end, empty_line}
 use Rattle.text.specs.declared.Read.{Read}
 use Rattle.amount.specs.Kinds.{string_meta_kind, number_meta_kind, currency_meta_kind}

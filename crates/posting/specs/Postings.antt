@@ -1,7 +1,7 @@
 -- Rules 11 and 12: postings, and the lines after a transaction's head.
 use Rattle.std.specs.Prelude.{ℕ, suc, ◌+◌, Bool, cond, not, ◌&&◌, List, [], ◌∷◌, eqb, length, get_or}
 use Rattle.text.specs.Bytes.{is_small}
-use Rattle.text.specs.Answer.{Ans, To, Miss, Hard, ◌then◌, ◌and◌, ◌else◌, maybe, many}
+use Rattle.text.specs.Answer.{Ans, To, Miss, ◌then◌, ◌and◌, ◌else◌, maybe, many}
 use Rattle.text.specs.Leaves.{gap, line_end, empty_line}
 use Rattle.text.specs.Accounts.{account}
 use Rattle.amount.specs.Kinds.{amount_kind, posting_kind}

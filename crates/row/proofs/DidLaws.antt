@@ -1,6 +1,6 @@
 -- Laws by which code that writes rows follows the joins of readers. The code's answers are r and q, and u and v the
 -- tables after them.
-use Prim.Native.Nat.{ℕ, ◌+◌}
+use Prim.Native.Nat.{ℕ}
 use native.Mathlib.Omega.{arith}
 use mathlib.Core.Path.{◌≡◌, refl, ◌∙◌, ap}
 use mathlib.Core.List.{List, [], ◌∷◌, ◌++◌, map}

@@ -3,7 +3,6 @@ use Prim.Native.Nat.{ℕ, ◌-◌, ◌≤◌, ◌<◌}
 use mathlib.Core.Path.{◌≡◌, refl, ◌∙◌, ap}
 use mathlib.Core.List.{List, [], ◌∷◌}
 use lib.ListN.{length}
-use Rattle.text.specs.Answer.{Hard}
 use Rattle.amount.specs.Details.{Rows}
 use Rattle.amount.specs.steps.Answers.{one_of}
 use Rattle.amount.specs.declared.detail.Detail.{Detail}

@@ -18,7 +18,7 @@ use Rattle.text.specs.Accounts.{account_part, next_part, account}
 use Rattle.text.specs.steps.Accounts.{part_follows, parts_from, account_at, account_answer}
 use Rattle.text.specs.declared.account.AccountRead.TheVariants.{To, Miss, Hard}
 use Rattle.text.specs.steps.Windows.{goes_on, first_stop}
-use Rattle.text.proofs.TestLaws.{absurd_bool, or_left, and_left, and_right}
+use Rattle.text.proofs.TestLaws.{absurd_bool, or_left, and_right}
 use Rattle.text.proofs.Steps.{drop_step, head_drop, get_d_past, run_on, run_stops, run_ends, run_from_lem, run_out, run_same, such_within}
 use Rattle.text.proofs.WindowLaws.{first_says}
 

@@ -16,7 +16,6 @@ use Rattle.text.specs.Currencies.{currency_at}
 use Rattle.text.specs.Words.{starts_with, word_at}
 use Rattle.text.specs.Tags.{marked_at}
 use Rattle.text.specs.Refusals.{second_part_number}
-use Rattle.text.specs.Answer.{To, Miss}
 use Rattle.text.specs.Leaves.{token, dated, gap, comma, line_end, empty_line, currency, tag, link, date, word, byte, hard_gap}
 use Rattle.text.specs.Accounts.{account}
 use Rattle.text.specs.steps.Accounts.{part_follows, parts_from, account_at, account_answer}

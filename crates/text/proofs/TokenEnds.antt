@@ -1,15 +1,15 @@
 -- Where the token readers end: what is read ends after its start and within the text, where a refusal stands too.
-use Prim.Native.Nat.{ℕ, suc, ◌+◌, ◌-◌, ◌≤◌, ◌<◌}
+use Prim.Native.Nat.{ℕ, ◌+◌, ◌-◌, ◌≤◌, ◌<◌}
 use native.Mathlib.Omega.{arith}
 use mathlib.Core.Path.{◌≡◌, refl, sym}
-use mathlib.Core.Bool.{Bool, true, false, cond, ◌||◌, ◌&&◌}
-use mathlib.Core.List.{List, [], ◌∷◌}
+use mathlib.Core.Bool.{Bool, true, false, cond, ◌&&◌}
+use mathlib.Core.List.{List, []}
 use borrow.Author.Tests.{eqb-true, ltb-true, leb-true}
 use lib.Dec.{eqb, leb, ltb}
 use lib.ListN.{length, drop, get_or, length-drop}
 use Rattle.text.specs.Every.{OneOf}
 use Rattle.text.specs.Bytes.{is_blank, is_capital, is_digit, in_comment, in_account, in_currency, in_tag, in_link, starts_part}
-use Rattle.text.specs.Run.{run_from, run_to, blanks}
+use Rattle.text.specs.Run.{run_to, blanks}
 use Rattle.text.specs.Lines.{gap_at, comma_at, comment_end, eol_at, line_end_at, empty_at}
 use Rattle.text.specs.Dates.{like_shape, date_shape, two, date_in, date_at}
 use Rattle.text.specs.Strings.{string_at}

@@ -1,6 +1,6 @@
 -- The definitions tried on closed inputs: what each token reads at the start of a text, as one list under one
 -- statement, by computation.
-use Rattle.std.specs.Prelude.{ℕ, ◌+◌, ◌≡◌, refl, List, [], ◌∷◌, map}
+use Rattle.std.specs.Prelude.{ℕ, ◌≡◌, refl, List, [], ◌∷◌, map}
 use Prim.Native.String.{String}
 use Rattle.text.specs.Bytes.{bytes}
 use Rattle.text.specs.Permitted.{clean}

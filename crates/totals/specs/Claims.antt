@@ -1,7 +1,7 @@
 -- What holds of the totals (M-108): the order of transactions in the file never changes a sum or a count, and a sum is
 -- the whole numbers' sum of the values of its postings.
 use Rattle.std.specs.Prelude.{ℕ, ◌≡◌}
-use mathlib.Core.List.{List, [], ◌∷◌, map, Permᴰ}
+use mathlib.Core.List.{List, map, Permᴰ}
 use Rattle.text.specs.Every.{Every}
 use Rattle.row.specs.declared.table.Row.{Row}
 use Rattle.order.specs.Order.{Said, said}

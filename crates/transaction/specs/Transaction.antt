@@ -5,7 +5,7 @@
 use Rattle.std.specs.Prelude.{ℕ, suc, ◌+◌, ◌-◌, List, [], ◌∷◌, length}
 use Rattle.text.specs.Bytes.{bytes}
 use Rattle.text.specs.Run.{blanks}
-use Rattle.text.specs.Answer.{Ans, To, Miss, Hard, ◌then◌, ◌and◌, ◌else◌, must, maybe, many}
+use Rattle.text.specs.Answer.{To, ◌and◌, ◌else◌, must, maybe, many}
 use Rattle.text.specs.Leaves.{gap, string, word, tag, link, line_end}
 use Rattle.text.specs.Refusals.{required_number}
 use Rattle.amount.specs.Kinds.{flag_kind, payee_kind, narration_kind, tag_kind, link_kind}

@@ -11,7 +11,7 @@ use mir.Syntax.{w64}
 use mir.Val.{Fits}
 use lib.Dec.{eqb}
 use lib.ListN.{length, take, drop, length-drop, drop_of_length-le}
-use Rattle.text.specs.Answer.{Ans, To, Miss, Hard}
+use Rattle.text.specs.Answer.{Ans, To}
 use Rattle.text.specs.Run.{blanks}
 use Rattle.text.specs.Dates.{date_at}
 use Rattle.text.specs.Leaves.{dated, date}

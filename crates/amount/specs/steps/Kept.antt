@@ -1,6 +1,6 @@
 -- What the code keeps of the digits of a literal. The literal's own meaning is `literal_as`: a law shows that what is
 -- kept comes to it.
-use Rattle.std.specs.Prelude.{ℕ, ◌+◌, ◌-◌, ◌*◌, ◌^◌, Bool, true, false, cond, ◌&&◌, ◌||◌, not, List, [], ◌∷◌, leb, ltb, eqb, get_or, drop}
+use Rattle.std.specs.Prelude.{ℕ, ◌+◌, ◌-◌, ◌*◌, ◌^◌, Bool, true, false, cond, List, [], ◌∷◌, ltb, eqb, get_or, drop}
 use Prim.Native.Char.{code}
 use Rattle.decimal.specs.steps.Judged.{judged_of}
 use Rattle.decimal.specs.declared.Value.{Value}

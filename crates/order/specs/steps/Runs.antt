@@ -1,5 +1,5 @@
 -- Runs of records with the same key in a sorted buffer.
-use Rattle.std.specs.Prelude.{ℕ, suc, ◌+◌, ◌-◌, Bool, cond, List, [], ◌∷◌, length}
+use Rattle.std.specs.Prelude.{ℕ, suc, ◌+◌, ◌-◌, Bool, cond, List, [], ◌∷◌}
 use Rattle.order.specs.Order.{by}
 use Rattle.order.specs.steps.Buffers.{said_in, record_at, records_from, record_room}
 use Rattle.order.specs.Groups.{alike}

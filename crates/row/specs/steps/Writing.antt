@@ -1,8 +1,7 @@
 -- What the row writer holds, and what a reader that writes has done.
 use Rattle.std.specs.Prelude.{ℕ, ◌+◌, ◌*◌, ◌≤◌, cond, List, [], ◌∷◌, ◌++◌, map, ◌≡◌, eqb, length}
-use Rattle.decimal.specs.declared.Value.{Value}
 use Rattle.decimal.specs.declared.Value.TheVariants.{Known, Refused}
-use Rattle.text.specs.Answer.{Ans, To, Miss, Hard}
+use Rattle.text.specs.Answer.{To, Miss, Hard}
 use Rattle.text.specs.Permitted.{size_limit}
 use Rattle.amount.specs.declared.detail.Detail.{Detail}
 use Rattle.amount.specs.Details.{Rows}

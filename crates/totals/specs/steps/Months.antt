@@ -1,5 +1,5 @@
 -- A ledger that plain reading accepts, its postings of a month, and what their listing comes to.
-use Rattle.std.specs.Prelude.{ℕ, ◌*◌, ◌≡◌, List, [], ◌∷◌, length}
+use Rattle.std.specs.Prelude.{ℕ, ◌*◌, ◌≡◌, List, [], length}
 use Rattle.text.specs.Every.{Every}
 use Rattle.row.specs.declared.table.Row.{Row}
 use Rattle.row.specs.steps.Holding.{Held}

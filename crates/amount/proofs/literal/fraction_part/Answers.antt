@@ -36,7 +36,7 @@ pub loop-i-smaller-then-is_digit : goal.loop-i-smaller-then-is_digit
 loop-i-smaller-then-is_digit c = search (rules, fraction_laws)
 
 pub loop-i-preserved-then-is_digit : goal.loop-i-preserved-then-is_digit
-loop-i-preserved-then-is_digit c = elim c.if-places-lt6.branch [ | then-places-lt6 w ↦ search (rules, fraction_laws) | else-places-lt6+then-b-ne48 w ↦ search (rules, fraction_laws) | else-places-lt6+else-b-ne48 w ↦ search (rules, fraction_laws) ]
+loop-i-preserved-then-is_digit c = elim c.if-places-lt6.branch [ then-places-lt6 w ↦ search (rules, fraction_laws) | else-places-lt6+then-b-ne48 w ↦ search (rules, fraction_laws) | else-places-lt6+else-b-ne48 w ↦ search (rules, fraction_laws) ]
 
 pub overflow_add-i-then-b-eq44 : goal.overflow_add-i-then-b-eq44
 overflow_add-i-then-b-eq44 c = search (rules, fraction_laws)

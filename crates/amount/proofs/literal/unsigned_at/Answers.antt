@@ -22,4 +22,4 @@ pub without_point-requires : goal.without_point-requires
 without_point-requires c = search (rules, unsigned_laws)
 
 pub returns : goal.returns
-returns c = elim c.if-end-s.branch [ | then-end-s+else-s-end-eq46 w ↦ search (rules, unsigned_laws) | else-end-s w ↦ search (rules, unsigned_laws) ]
+returns c = elim c.if-end-s.branch [ then-end-s+else-s-end-eq46 w ↦ search (rules, unsigned_laws) | else-end-s w ↦ search (rules, unsigned_laws) ]

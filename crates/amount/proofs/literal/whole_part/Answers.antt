@@ -31,7 +31,7 @@ pub loop-i-smaller-then-is_digit : goal.loop-i-smaller-then-is_digit
 loop-i-smaller-then-is_digit c = search (rules, whole_laws)
 
 pub loop-i-preserved-then-is_digit : goal.loop-i-preserved-then-is_digit
-loop-i-preserved-then-is_digit c = elim c.if-size-lt1000000000.branch [ | then-size-lt1000000000 w ↦ search (rules, whole_laws) | else-size-lt1000000000 w ↦ search (rules, whole_laws) ]
+loop-i-preserved-then-is_digit c = elim c.if-size-lt1000000000.branch [ then-size-lt1000000000 w ↦ search (rules, whole_laws) | else-size-lt1000000000 w ↦ search (rules, whole_laws) ]
 
 pub overflow_add-i-then-b-eq44 : goal.overflow_add-i-then-b-eq44
 overflow_add-i-then-b-eq44 c = search (rules, whole_laws)

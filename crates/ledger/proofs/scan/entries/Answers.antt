@@ -73,13 +73,12 @@ pub loop-at-smaller : goal.loop-at-smaller
 loop-at-smaller c = search (rules, judge_laws)
 
 pub loop-at-preserved : goal.loop-at-preserved
-loop-at-preserved c =
-    (
+loop-at-preserved c = (
   turn_read _ _ _ _ _ _ c.loop-at.invariant.0 c.loop-at-test.true _ c.entry_at-e.ensures.value _ _ _ c.in-Read.is _ _ c.place-k.ensures c.entry_at-e.ensures.entry_poured,
   turn_judged _ _ _ _ _ _ c.loop-at.invariant.0 c.loop-at-test.true _ c.entry_at-e.ensures.value _ _ _ c.in-Read.is _ _ _ c.noted-held.ensures c.loop-at.invariant.1,
   turn_near _ _ _ _ _ _ c.loop-at.invariant.0 c.loop-at-test.true _ c.entry_at-e.ensures.value _ _ _ c.in-Read.is _ _ _ c.noted-held.ensures c.requires c.loop-at.invariant.2,
   search (rules, judge_laws),
-    )
+)
 
 pub ended-requires : goal.ended-requires
 ended-requires c = search (rules, judge_laws)

@@ -30,7 +30,7 @@ line_from-l-requires-then-start-l c = search (rules, sweeping)
 pub line_at-l-requires : goal.line_at-l-requires
 line_at-l-requires c =
     let kept = c.loop-left.invariant.1 in
-    elim c.if-start-l.branch [ | then-start-l w ↦ line_anew _ _ w.l-is w.line_from-l-then-start-l.ensures.0 w.line_from-l-then-start-l.ensures.1 | else-start-l w ↦ line_kept _ _ w.l-is kept w.if-start-l.false ]
+    elim c.if-start-l.branch [ then-start-l w ↦ line_anew _ _ w.l-is w.line_from-l-then-start-l.ensures.0 w.line_from-l-then-start-l.ensures.1 | else-start-l w ↦ line_kept _ _ w.l-is kept w.if-start-l.false ]
 
 pub overflow_add-i-in-loop-left : goal.overflow_add-i-in-loop-left
 overflow_add-i-in-loop-left c = search (rules, sweeping)
