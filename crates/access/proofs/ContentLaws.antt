@@ -1,4 +1,6 @@
 -- How the code goes through string content: first it measures, then it copies.
+use Rattle.text.specs.Refusals.{refused_with}
+use Rattle.std.specs.Prelude.{Err, Ok, None, Option, Some}
 use Prim.Native.Nat.{ℕ, suc, ◌+◌, ◌^◌, ◌≤◌, ◌<◌}
 use native.Mathlib.Nat.{add-zero, zero-add}
 use native.Mathlib.Numerals.{add-one}
@@ -11,7 +13,7 @@ use lib.Dec.{eqb}
 use lib.ListN.{length, get_or, set, drop, drop_of_length-le}
 use lib.Seq.{sets, drop-drop}
 use mir.Syntax.{w64}
-use mir.Val.{Fits}
+use mir.Val.{Fits, bool_byte}
 use Rattle.text.specs.Bytes.{is_ordinary, is_escaped}
 use Rattle.text.specs.Strings.{str_from, esc_from, string_at}
 use Rattle.text.proofs.Steps.{drop_step, head_drop, such_within}
@@ -19,8 +21,6 @@ use Rattle.text.proofs.TestLaws.{and_right}
 use Rattle.row.proofs.FieldLaws.{sets_front}
 use Rattle.access.specs.Contents.{ends_at, valid, unescaped, escaped_byte, content_answer, content_left}
 use Rattle.access.specs.steps.Measuring.{taken, slash, measured_of}
-use Rattle.access.specs.declared.written.Written.{Written}
-use Rattle.access.specs.declared.content.Measured.{Measured}
 
 -- a byte that is neither ordinary nor a quote
 backslash : (b : ℕ) → is_ordinary b ≡ false → (b ≡ 34 → ⊥) → b ≡ 92
@@ -30,25 +30,25 @@ backslash b e q = eqb-true b 92 (not-false (eqb b 92) (rw (ne_eqb b 34 q) at e))
 -- ---- how many bytes stand for the next one
 
 module _ (o : Bool) (b next : ℕ) where
-  pub taken_one : (r : Bool) → r ≡ is_ordinary b → r ≡ true → 1 ≡ taken o b next
+  pub taken_one : (r : Bool) → r ≡ is_ordinary b → r ≡ true → Some 1 ≡ taken o b next
   unfolding taken
   taken_one r v t = rw (← v, t)
 
   module _ (r : Bool) (v : r ≡ is_ordinary b) (f : r ≡ false) where
-    pub taken_first : o ≡ false → 0 ≡ taken o b next
+    pub taken_first : o ≡ false → None ≡ taken o b next
     unfolding taken
     taken_first t = rw (← v, f, t)
 
-    pub taken_quote : o ≡ true → (b ≡ 92 → ⊥) → 0 ≡ taken o b next
+    pub taken_quote : o ≡ true → (b ≡ 92 → ⊥) → None ≡ taken o b next
     unfolding taken
     taken_quote t n = rw (← v, f, t, ne_eqb b 92 n)
 
     module _ (t : o ≡ true) (n : b ≡ 92) (q : Bool) (w : q ≡ is_escaped next) where
-      pub taken_two : q ≡ true → 2 ≡ taken o b next
+      pub taken_two : q ≡ true → Some 2 ≡ taken o b next
       unfolding taken
       taken_two u = rw (← v, f, t, eq-eqb b 92 n, ← w, u)
 
-      pub taken_other : q ≡ false → 0 ≡ taken o b next
+      pub taken_other : q ≡ false → None ≡ taken o b next
       unfolding taken
       taken_other u = rw (← v, f, t, eq-eqb b 92 n, ← w, u)
 
@@ -58,12 +58,13 @@ pub ruleset taken_laws = (taken_one, taken_first, taken_quote, taken_two, taken_
 
 -- the answer from place i of the string on, where content c is left and n bytes were counted: valid if the string ends
 -- at m
-unfoldable pub left : Bool → List ℕ → ℕ → ℕ → ℕ → Measured
-left o c i m n = cond (ends_at m (str_from o (c ++ (34 ∷ [])) i)) (Measured.Bytes (n + length (unescaped c))) Measured.Bad
+unfoldable pub left : Bool → List ℕ → ℕ → ℕ → ℕ → Option ℕ
+left o c i m n = cond (ends_at m (str_from o (c ++ (34 ∷ [])) i)) (Some (n + length (unescaped c))) None
 
--- after k bytes that stand for the next one
-unfoldable on : ℕ → List ℕ → ℕ → ℕ → ℕ → Measured
-on k c i m n = cond (eqb k 0) Measured.Bad (left (eqb k 1) (drop k c) (i + k) m (n + 1))
+-- after the bytes that stand for the next one
+unfoldable on : Option ℕ → List ℕ → ℕ → ℕ → ℕ → Option ℕ
+on None c i m n = None
+on (Some k) c i m n = left (eqb k 1) (drop k c) (i + k) m (n + 1)
 
 after : (i n : ℕ) → i + suc n ≡ i + 1 + n
 after i n = omega arith
@@ -111,42 +112,50 @@ turn o b c i m n l = go (is_ordinary b) refl (eqb b 34) refl
     go false e false f = rw (backslash b e (eqb-false b 34 f)) (slash_turn o c i m n)
 
 -- the same of content u that starts with b
-turn_at : (o : Bool) (b : ℕ) (u c : List ℕ) (i m n k : ℕ) → u ≡ b ∷ c → k ≡ taken o b (get_or c 0 0) → i + 1 < m → left o u i m n ≡ on k u i m n
+turn_at : (o : Bool) (b : ℕ) (u c : List ℕ) (i m n : ℕ) (k : Option ℕ) → u ≡ b ∷ c → k ≡ taken o b (get_or c 0 0) → i + 1 < m → left o u i m n ≡ on k u i m n
 turn_at o b u c i m n k e f l = rw (e, f) (turn o b c i m n l)
 
--- The loop that measures: the answer a is what is left at i, after n bytes; k bytes stand for the next one.
-module _ (a : Measured) (c : List ℕ) (o : Bool) (i n : ℕ) (v : a ≡ left o (drop i c) (i + 1) (length c + 2) n) where
-  pub measure_end : length c ≤ i → i ≤ length c → Measured.Bytes n ≡ a
+-- The loop that measures: the answer a is what is left at i, after n bytes; r tells how many stand for the next one.
+module _ (a : Option ℕ) (c : List ℕ) (o : Bool) (i n : ℕ) (v : a ≡ left o (drop i c) (i + 1) (length c + 2) n) where
+  pub measure_end : length c ≤ i → i ≤ length c → Some n ≡ a
   unfolding left str_from is_ordinary ends_at unescaped
   measure_end h l = sym (v ∙ rw (drop_of_length-le c h, eq-eqb (i + 1 + 1) (length c + 2) (omega arith), add-zero))
 
-  module _ (h : i < length c) (x y k : ℕ) (f : x ≡ get_or c i 0) (g : y ≡ get_or c (i + 1) 0) (e : k ≡ taken o x y) where
-    next : a ≡ on k (drop i c) (i + 1) (length c + 2) n
+  module _ (h : i < length c) (x y : ℕ) (r : Option ℕ) (f : x ≡ get_or c i 0) (g : y ≡ get_or c (i + 1) 0) (e : r ≡ taken o x y) where
+    next : a ≡ on r (drop i c) (i + 1) (length c + 2) n
     next =
-        v ∙ turn_at o (get_or c i 0) (drop i c) (drop (i + 1) c) (i + 1) (length c + 2) n k (drop_step c i h) (rw (head_drop c (i + 1), ← f, ← g) e) (omega arith)
+        v ∙ turn_at o (get_or c i 0) (drop i c) (drop (i + 1) c) (i + 1) (length c + 2) n r (drop_step c i h) (rw (head_drop c (i + 1), ← f, ← g) e) (omega arith)
 
-    pub measure_bad : k ≡ 0 → Measured.Bad ≡ a
+    pub measure_bad : r ≡ None → None ≡ a
     unfolding on
-    measure_bad z = sym (next ∙ rw (eq-eqb k 0 z))
+    measure_bad z = sym (next ∙ rw z)
 
-    pub measure_on : (k ≡ 0 → ⊥) → a ≡ left (eqb k 1) (drop (i + k) c) (i + k + 1) (length c + 2) (n + 1)
+    pub measure_on : (k : ℕ) → r ≡ Some k → a ≡ left (eqb k 1) (drop (i + k) c) (i + k + 1) (length c + 2) (n + 1)
     unfolding on
-    measure_on z = next ∙ rw (ne_eqb k 0 z, drop-drop k i c, order i k)
+    measure_on k z = next ∙ rw (z, drop-drop k i c, order i k)
       where
         order : (i k : ℕ) → i + 1 + k ≡ i + k + 1
         order i k = omega arith
 
--- they all stand in the content
-module _ (c : List ℕ) (o : Bool) (i x y k : ℕ) (h : i < length c) (g : y ≡ get_or c (i + 1) 0) (e : k ≡ taken o x y) where
-  pub measure_within : i + k ≤ length c
+-- one at least, and they all stand in the content
+module _ (c : List ℕ) (o : Bool) (i x y k : ℕ) (r : Option ℕ) (h : i < length c) (g : y ≡ get_or c (i + 1) 0) (e : r ≡ taken o x y) (s : r ≡ Some k) where
+  within : (0 < k) × (i + k ≤ length c)
   unfolding taken
-  measure_within = go (is_ordinary x) (o && (eqb x 92 && is_escaped y)) refl e
+  within = go (is_ordinary x) (o && (eqb x 92 && is_escaped y)) refl (sym s ∙ e)
     where
-      go : (t q : Bool) → (o && (eqb x 92 && is_escaped y)) ≡ q → k ≡ cond t 1 (cond q 2 0) → i + k ≤ length c
-      go true q f w = omega arith
+      go : (t q : Bool) → (o && (eqb x 92 && is_escaped y)) ≡ q → Some k ≡ cond t (Some 1) (cond q (Some 2) None) → (0 < k) × (i + k ≤ length c)
+      go true q f w = let z : k ≡ 1 = cc in (omega arith, omega arith)
       go false true f w =
-          omega (arith, such_within is_escaped c (i + 1) y nothing g (and_right (eqb x 92) (is_escaped y) (and_right o (eqb x 92 && is_escaped y) f)))
-      go false false f w = omega arith
+          let z : k ≡ 2 = cc in
+          let l = such_within is_escaped c (i + 1) y nothing g (and_right (eqb x 92) (is_escaped y) (and_right o (eqb x 92 && is_escaped y) f)) in
+          (omega arith, omega arith)
+      go false false f w = cc
+
+  pub measure_some : 0 < k
+  measure_some = within.0
+
+  pub measure_within : i + k ≤ length c
+  measure_within = within.1
 
   pub measure_fits : length c < 2 ^ 64 → Fits w64 (i + k)
   measure_fits l = let w = measure_within in record { fits = omega arith }
@@ -155,19 +164,19 @@ pub measure_start : (c : List ℕ) → measured_of c ≡ left false (drop 0 c) (
 unfolding measured_of valid string_at left
 measure_start c = rw (zero-add (length (unescaped c)))
 
-pub ruleset measure_laws = (measure_end, measure_bad, measure_on, measure_within, measure_fits, measure_start)
+pub ruleset measure_laws = (measure_end, measure_bad, measure_on, measure_some, measure_within, measure_fits, measure_start)
 
 -- ---- copying
 
-pub slash_one : (b : ℕ) → b ≡ 92 → 1 ≡ slash b
+pub slash_is : (b n : ℕ) → n ≡ bool_byte (eqb b 92) → n ≡ slash b
 unfolding slash
-slash_one b e = rw e
+slash_is b n e = e ∙ go (eqb b 92)
+  where
+    go : (t : Bool) → bool_byte t ≡ cond t 1 0
+    go true = refl
+    go false = refl
 
-pub slash_none : (b : ℕ) → (b ≡ 92 → ⊥) → 0 ≡ slash b
-unfolding slash
-slash_none b e = rw (ne_eqb b 92 e)
-
-pub ruleset slash_laws = (slash_one, slash_none)
+pub ruleset slash_laws = (slash_is)
 
 -- the byte after m bytes is kept
 module _ (c : List ℕ) (i m : ℕ) (h : i < length c) (e : m ≡ slash (get_or c i 0)) where
@@ -220,33 +229,33 @@ pub ruleset copy_laws = (copy_end, copy_stop, copy_on, copy_room, copy_left, sla
 
 -- ---- the call
 
-module _ (c t : List ℕ) (r : Measured) (p : r ≡ measured_of c) where
-  was_bad : r ≡ Measured.Bad → valid c ≡ false
+module _ (c t : List ℕ) (r : Option ℕ) (p : r ≡ measured_of c) where
+  was_bad : r ≡ None → valid c ≡ false
   unfolding measured_of
   was_bad q = go (valid c) (sym p ∙ q)
     where
-      go : (b : Bool) → cond b (Measured.Bytes (length (unescaped c))) Measured.Bad ≡ Measured.Bad → b ≡ false
+      go : (b : Bool) → cond b (Some (length (unescaped c))) None ≡ None → b ≡ false
       go true f = cc
       go false f = refl
 
-  was_bytes : (n : ℕ) → r ≡ Measured.Bytes n → (valid c ≡ true) × (n ≡ length (unescaped c))
+  was_bytes : (n : ℕ) → r ≡ Some n → (valid c ≡ true) × (n ≡ length (unescaped c))
   unfolding measured_of
   was_bytes n q = go (valid c) (sym p ∙ q)
     where
-      go : (b : Bool) → cond b (Measured.Bytes (length (unescaped c))) Measured.Bad ≡ Measured.Bytes n → (b ≡ true) × (n ≡ length (unescaped c))
+      go : (b : Bool) → cond b (Some (length (unescaped c))) None ≡ Some n → (b ≡ true) × (n ≡ length (unescaped c))
       go true f = (refl, cc)
       go false f = (cc, cc)
 
-  pub bad_answer : r ≡ Measured.Bad → Written.Refusal 10 0 ≡ content_answer c (length t)
+  pub bad_answer : r ≡ None → Err (refused_with 10 0 0) ≡ content_answer c (length t)
   unfolding content_answer
   bad_answer q = rw (was_bad q)
 
-  pub bad_left : r ≡ Measured.Bad → t ≡ content_left c t
+  pub bad_left : r ≡ None → t ≡ content_left c t
   unfolding content_left
   bad_left q = rw (was_bad q)
 
-  module _ (n : ℕ) (q : r ≡ Measured.Bytes n) where
-    pub short_answer : length t < n → Written.Refusal 9 n ≡ content_answer c (length t)
+  module _ (n : ℕ) (q : r ≡ Some n) where
+    pub short_answer : length t < n → Err (refused_with 9 0 n) ≡ content_answer c (length t)
     unfolding content_answer
     short_answer l = let w = was_bytes n q in rw (w.0, ← w.1, lt-leb n (length t) l)
 
@@ -257,7 +266,7 @@ module _ (c t : List ℕ) (r : Measured) (p : r ≡ measured_of c) where
     pub room_there : n ≤ length t → length (unescaped c) ≤ length t
     room_there l = rw (← (was_bytes n q).1) l
 
-    pub copied_answer : n ≤ length t → Written.Bytes n ≡ content_answer c (length t)
+    pub copied_answer : n ≤ length t → Ok n ≡ content_answer c (length t)
     unfolding content_answer
     copied_answer l = let w = was_bytes n q in rw (w.0, ← w.1, le-leb n (length t) l)
 

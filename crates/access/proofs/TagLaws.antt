@@ -1,22 +1,20 @@
 -- The answers on rows, and whether a tag is in force.
+use Rattle.text.specs.Refusals.{refused_with}
+use Rattle.std.specs.Prelude.{Err, Ok, None, Option, Some, false, true}
 use Prim.Native.Nat.{ℕ, zero, suc, ◌+◌, ◌-◌, ◌*◌, ◌≤◌, ◌<◌}
 use native.Mathlib.Numerals.{sub-one}
 use native.Mathlib.Omega.{arith}
-use mathlib.Core.Path.{◌≡◌, refl, sym, ◌∙◌}
-use mathlib.Core.Bool.{Bool, true, false, cond, ◌||◌}
+use mathlib.Core.Path.{◌≡◌, refl, sym, ap, ◌∙◌}
+use mathlib.Core.Bool.{Bool, true, false, cond, ◌&&◌, ◌||◌}
 use mathlib.Core.List.{List, [], ◌∷◌}
 use borrow.Author.Tests.{eq-eqb, ne_eqb, lt-ltb, le-ltb, le-leb, lt-leb}
 use lib.Dec.{eqb}
-use lib.ListN.{length, get_or, drop, drop_of_length-le}
+use lib.Pointwise.{pointwise}
 use Rattle.row.specs.declared.table.Row.{Row}
 use Rattle.row.specs.Field.{field_at}
-use Rattle.text.proofs.Steps.{drop_step}
-use Rattle.text.proofs.TestLaws.{and_right, absurd_bool}
 use Rattle.row.specs.Row.{at_kind, at_start, at_end, at_line, at_p, at_q, at_value, width, room}
 use Rattle.access.specs.Spans.{good_span, span_text}
-use Rattle.access.specs.Tables.{row_at, row_found, same, names, last_named, in_force}
-use Rattle.access.specs.declared.tables.Force.{Force}
-use Rattle.access.specs.declared.tables.Found.{Found}
+use Rattle.access.specs.Tables.{row_at, row_found, same, names, last_named, pushes, in_force}
 
 -- ---- the row with a number
 
@@ -28,11 +26,11 @@ unfolding row_at
 row_read t k ea eb ec ed ee ef eg = rw (ea, eb, ec, ed, ee, ef, eg)
 
 module _ (t : List ℕ) (k : ℕ) where
-  pub row_there : (r : Row) → k < room t → r ≡ row_at t k → Found.Row r ≡ row_found t k
+  pub row_there : (r : Row) → k < room t → r ≡ row_at t k → Ok r ≡ row_found t k
   unfolding row_found
   row_there r h e = rw (e, lt-ltb k (room t) h)
 
-  pub row_over : room t ≤ k → Found.Refusal 10 ≡ row_found t k
+  pub row_over : room t ≤ k → Err (refused_with 10 0 0) ≡ row_found t k
   unfolding row_found
   row_over h = rw (le-ltb k (room t) h)
 
@@ -40,37 +38,14 @@ pub ruleset row_laws = (row_there, row_over)
 
 pub ruleset read_laws = (row_read)
 
--- ---- the same bytes: r says whether what is left from i on is the same
+-- ---- the same bytes
 
-module _ (r : Bool) (a b : List ℕ) (i : ℕ) (v : r ≡ same (drop i a) (drop i b)) where
-  pub same_done : length a ≤ i → length a ≡ length b → true ≡ r
-  unfolding same
-  same_done h l = let k : length b ≤ i = omega arith in sym (v ∙ rw (drop_of_length-le a h, drop_of_length-le b k))
-
-  module _ (h : i < length a) (l : length a ≡ length b) where
-    pub same_on : get_or a i 0 ≡ get_or b i 0 → r ≡ same (drop (i + 1) a) (drop (i + 1) b)
-    unfolding same
-    same_on e = let k : i < length b = omega arith in v ∙ rw (drop_step a i h, drop_step b i k, eq-eqb _ _ e)
-
-    pub same_differs : (get_or a i 0 ≡ get_or b i 0 → ⊥) → false ≡ r
-    unfolding same
-    same_differs e = let k : i < length b = omega arith in sym (v ∙ rw (drop_step a i h, drop_step b i k, ne_eqb _ _ e))
-
-same_length : (a b : List ℕ) → same a b ≡ true → length a ≡ length b
+pointwise_same : (a b : List ℕ) → pointwise eqb a b ≡ same a b
 unfolding same
-same_length [] [] e = refl
-same_length [] (y ∷ b) e = absurd_bool e
-same_length (x ∷ a) [] e = absurd_bool e
-same_length (x ∷ a) (y ∷ b) e = let l = same_length a b (and_right (eqb x y) (same a b) e) in omega arith
-
-pub same_longer : (a b : List ℕ) → (length a ≡ length b → ⊥) → false ≡ same a b
-same_longer a b n = go (same a b) refl
-  where
-    go : (t : Bool) → same a b ≡ t → false ≡ t
-    go true e = absurd (n (same_length a b e))
-    go false e = refl
-
-pub ruleset same_laws = (same_done, same_on, same_differs, same_longer)
+pointwise_same [] [] = refl
+pointwise_same [] (y ∷ b) = refl
+pointwise_same (x ∷ a) [] = refl
+pointwise_same (x ∷ a) (y ∷ b) = ap (λ t. eqb x y && t) (pointwise_same a b)
 
 -- ---- whether a row and the next one name a tag
 
@@ -89,29 +64,29 @@ module _ (s t tag : List ℕ) (j : ℕ) (x : Row) (e : x ≡ row_at t j) where
       unfolding names
       passed_over b = rw (← e, f, ← g, eq-eqb y.kind 23 n, ← v, b)
 
-      pub names_bytes : (w : List ℕ) (q : Bool) → r ≡ true → w ≡ span_text s y.start y.end → q ≡ same w tag → q ≡ names s t tag j
+      pub names_bytes : (w : List ℕ) (q : Bool) → r ≡ true → w ≡ span_text s y.start y.end → q ≡ pointwise eqb w tag → q ≡ names s t tag j
       unfolding names
-      names_bytes w q b u z = rw (← e, f, ← g, eq-eqb y.kind 23 n, ← v, b, ← u, z)
+      names_bytes w q b u z = rw (← e, f, ← g, eq-eqb y.kind 23 n, ← v, b, ← u, ← pointwise_same w tag, z)
 
 pub ruleset name_laws = (other_kind, other_next, passed_over, names_bytes)
 
 -- ---- the last row that does; a is the answer, which the first j rows give
 
-module _ (s t tag : List ℕ) (a j : ℕ) (v : a ≡ last_named s t tag j) where
-  pub named_none : j ≤ 0 → 0 ≡ a
+module _ (s t tag : List ℕ) (a : Option ℕ) (j : ℕ) (v : a ≡ last_named s t tag j) where
+  pub named_none : j ≤ 0 → None ≡ a
   unfolding last_named
   named_none h = let z : j ≡ 0 = omega arith in sym (rw z at v)
 
   module _ (h : 0 < j) (r : Bool) (e : r ≡ names s t tag (j - 1)) where
-    named_step : a ≡ cond r (row_at t (j - 1)).kind (last_named s t tag (j - 1))
+    named_step : a ≡ cond r (Some (row_at t (j - 1)).kind) (last_named s t tag (j - 1))
     unfolding last_named
     named_step = v ∙ go j h e
       where
-        go : (i : ℕ) → 0 < i → r ≡ names s t tag (i - 1) → last_named s t tag i ≡ cond r (row_at t (i - 1)).kind (last_named s t tag (i - 1))
+        go : (i : ℕ) → 0 < i → r ≡ names s t tag (i - 1) → last_named s t tag i ≡ cond r (Some (row_at t (i - 1)).kind) (last_named s t tag (i - 1))
         go zero l q = absurd (omega arith)
         go (suc i) l q = rw (q, sub-one (suc i))
 
-    pub named_here : (x : Row) → r ≡ true → x ≡ row_at t (j - 1) → x.kind ≡ a
+    pub named_here : (x : Row) → r ≡ true → x ≡ row_at t (j - 1) → Some x.kind ≡ a
     named_here x f g = sym (named_step ∙ rw (f, g))
 
     pub named_before : r ≡ false → a ≡ last_named s t tag (j - 1)
@@ -122,21 +97,21 @@ pub ruleset last_laws = (named_none, named_here, named_before)
 -- ---- whether it is in force after the first k rows
 
 module _ (s t tag : List ℕ) (k : ℕ) where
-  pub force_none : k ≡ 0 → Force.Not ≡ in_force s t k tag
-  unfolding in_force last_named
+  pub force_none : k ≡ 0 → (Ok false) ≡ in_force s t k tag
+  unfolding in_force last_named pushes
   force_none e = rw (e, le-leb 0 (room t) (omega arith))
 
-  pub force_over : room t < k → Force.Refusal 10 ≡ in_force s t k tag
+  pub force_over : room t < k → Err (refused_with 10 0 0) ≡ in_force s t k tag
   unfolding in_force
   force_over h = rw (lt-leb k (room t) h)
 
-  module _ (h : k ≤ room t) (r : ℕ) (e : r ≡ last_named s t tag (k - 1)) where
-    pub force_yes : r ≡ 4 → Force.Yes ≡ in_force s t k tag
-    unfolding in_force
-    force_yes f = rw (le-leb k (room t) h, ← e, f)
+  module _ (h : k ≤ room t) (r : Option ℕ) (e : r ≡ last_named s t tag (k - 1)) where
+    pub force_by : (m : ℕ) → r ≡ Some m → Ok (eqb m 4) ≡ in_force s t k tag
+    unfolding in_force pushes
+    force_by m f = rw (le-leb k (room t) h, ← e, f)
 
-    pub force_not : (r ≡ 4 → ⊥) → Force.Not ≡ in_force s t k tag
-    unfolding in_force
-    force_not f = rw (le-leb k (room t) h, ← e, ne_eqb r 4 f)
+    pub force_not : r ≡ None → Ok false ≡ in_force s t k tag
+    unfolding in_force pushes
+    force_not f = rw (le-leb k (room t) h, ← e, f)
 
-pub ruleset force_laws = (force_none, force_over, force_yes, force_not)
+pub ruleset force_laws = (force_none, force_over, force_by, force_not)

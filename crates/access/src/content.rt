@@ -4,67 +4,56 @@ ghost use Rattle.std.proofs.lemmas.List.Edits.{sets};
 ghost use Rattle.access.specs.Contents.{unescaped, content_answer, content_left};
 ghost use Rattle.access.specs.steps.Measuring.{taken, slash, measured_of};
 
-use crate::written::Written;
 use text::bytes;
+use text::stop::{NOT_VALID, Refused, TOO_SHORT, refused_at};
 
-#[derive(Clone, Copy)]
-enum Measured {
-    Bytes(usize),
-    Bad,
-}
-
-// How many bytes stand for the next byte of a string: 1 for an ordinary byte, 2 for an escape, 0 where neither may
-// stand.
-fn taken_by(ordinary: bool, b: u8, next: u8) -> usize
+// How many bytes stand for the next byte of a string, where one may stand: 1 for an ordinary byte, 2 for an escape.
+fn taken_by(ordinary: bool, b: u8, next: u8) -> Option<usize>
     ensures { result ≡ taken ordinary b next }
 {
     if bytes::is_ordinary(b) {
-        return 1;
+        return Some(1);
     }
-    if ordinary {
-        if b == b'\\' {
-            if bytes::is_escaped(next) {
-                return 2;
-            }
-        }
+    if ordinary && b == b'\\' && bytes::is_escaped(next) {
+        Some(2)
+    } else {
+        None
     }
-    0
 }
 
 // How many bytes valid content has without its escapes.
-fn measure(content: &[u8]) -> Measured
+fn measure(content: &[u8]) -> Option<usize>
     ensures { result ≡ measured_of content.now }
 {
     let mut i = 0;
     let mut count = 0;
     let mut ordinary = false;
+    // A turn takes one byte, or an escape's two.
     while i < content.len() {
         let b = content[i];
-        let k = taken_by(ordinary, b, bytes::peek(content, i + 1));
-        if k == 0 {
-            return Measured::Bad;
-        }
+        let k = taken_by(ordinary, b, bytes::peek(content, i + 1))?;
         ordinary = k == 1;
         i += k;
         count += 1;
     }
-    Measured::Bytes(count)
+    Some(count)
 }
 
 // How many bytes are left out before the one that is kept: 1 at a backslash.
 fn skipped(b: u8) -> usize
     ensures { result ≡ slash b }
 {
-    if b == b'\\' { 1 } else { 0 }
+    usize::from(b == b'\\')
 }
 
-// Each byte but an escape's backslash, into the front of a buffer.
+// Each byte but an escape's backslash, so no `copy_from_slice`, into the front of a buffer.
 fn copied(content: &[u8], buffer: &mut [u8])
     requires { length (unescaped content.now) ≤ length buffer.old }
     ensures { buffer.new ≡ sets buffer.old 0 (unescaped content.now) }
 {
     let mut i = 0;
     let mut n = 0;
+    // A turn takes one byte, or an escape's two.
     while i < content.len() {
         let at = i + skipped(content[i]);
         if at < content.len() {
@@ -78,19 +67,18 @@ fn copied(content: &[u8], buffer: &mut [u8])
 }
 
 // 10 for content that is not valid, then 9 for a short buffer.
-pub fn unescape(content: &[u8], buffer: &mut [u8]) -> Written
+pub fn unescape(content: &[u8], buffer: &mut [u8]) -> Result<usize, Refused>
     ensures answer { result ≡ content_answer content.now (length buffer.old) }
     ensures bytes { buffer.new ≡ content_left content.now buffer.old }
 {
-    let m = measure(content);
-    match m {
-        Measured::Bad => Written::Refusal(10, 0),
-        Measured::Bytes(n) => {
-            if buffer.len() < n {
-                return Written::Refusal(9, n);
-            }
-            copied(content, buffer);
-            Written::Bytes(n)
-        }
+    let n = measure(content).ok_or(refused_at(NOT_VALID, 0))?;
+    if buffer.len() < n {
+        return Err(Refused {
+            number: TOO_SHORT,
+            place: 0,
+            count: n,
+        });
     }
+    copied(content, buffer);
+    Ok(n)
 }

@@ -5,4 +5,3 @@ pub mod content;
 pub mod single;
 pub mod span;
 pub mod tables;
-pub mod written;

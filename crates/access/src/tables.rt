@@ -1,25 +1,13 @@
 // Rows of a table: one by its number, and whether a tag is in force.
 ghost use Rattle.std.specs.Prelude.{◌≡◌, ◌+◌, ◌*◌, ◌≤◌, length};
 ghost use Rattle.row.specs.Row.{width};
-ghost use Rattle.access.specs.Tables.{row_at, row_found, same, names, last_named, in_force};
+ghost use Rattle.access.specs.Tables.{row_at, row_found, names, last_named, in_force};
 
 use crate::span;
 use amount::kind;
 use row::table;
 use row::table::{Row, WIDTH};
-
-#[derive(Clone, Copy)]
-pub enum Found {
-    Row(Row),
-    Refusal(usize),
-}
-
-#[derive(Clone, Copy)]
-pub enum Force {
-    Yes,
-    Not,
-    Refusal(usize),
-}
+use text::stop::{NOT_VALID, Refused, refused_at};
 
 // The row with a number, each field from its bytes.
 pub fn row_of(t: &[u8], k: usize) -> Row
@@ -39,30 +27,14 @@ pub fn row_of(t: &[u8], k: usize) -> Row
 }
 
 // The row with a number; 10 where the table has no such row.
-pub fn row(t: &[u8], k: usize) -> Found
+pub fn row(t: &[u8], k: usize) -> Result<Row, Refused>
     ensures { result ≡ row_found t.now k }
 {
     if k < t.len() / WIDTH {
-        return Found::Row(row_of(t, k));
+        Ok(row_of(t, k))
+    } else {
+        Err(refused_at(NOT_VALID, 0))
     }
-    Found::Refusal(10)
-}
-
-fn is_same(a: &[u8], b: &[u8]) -> bool
-    ensures { result ≡ same a.now b.now }
-{
-    if a.len() == b.len() {
-        let mut i = 0;
-        while i < a.len() {
-            if a[i] == b[i] {
-                i += 1;
-            } else {
-                return false;
-            }
-        }
-        return true;
-    }
-    false
 }
 
 // Whether row j is a 4 or 5 whose next row is a 23 of the tag's bytes.
@@ -78,42 +50,38 @@ fn is_named(ledger: &[u8], t: &[u8], j: usize, tag: &[u8]) -> bool
             let start = next.start;
             let end = next.end;
             if span::is_good(ledger, start, end) {
-                return is_same(span::text_of(ledger, start, end), tag);
+                return span::text_of(ledger, start, end) == tag;
             }
         }
     }
     false
 }
 
-// The kind of the last of the first n rows that names the tag, with its next row; 0 for none.
-fn last_named(ledger: &[u8], t: &[u8], n: usize, tag: &[u8]) -> usize
+// The kind of the last of the first n rows that names the tag, with its next row.
+fn last_named(ledger: &[u8], t: &[u8], n: usize, tag: &[u8]) -> Option<usize>
     requires { n * width + width ≤ length t.now }
     ensures { result ≡ last_named ledger.now t.now tag.now n }
 {
-    let mut j = n;
-    while 0 < j {
-        j -= 1;
+    for j in (0..n).rev() {
         if is_named(ledger, t, j, tag) {
-            let this = row_of(t, j);
-            return this.kind;
+            return Some(row_of(t, j).kind);
         }
     }
-    0
+    None
 }
 
 // Whether a tag is in force after the first k rows; 10 for k over the room.
-pub fn tag_in_force(ledger: &[u8], t: &[u8], k: usize, tag: &[u8]) -> Force
+pub fn tag_in_force(ledger: &[u8], t: &[u8], k: usize, tag: &[u8]) -> Result<bool, Refused>
     ensures { result ≡ in_force ledger.now t.now k tag.now }
 {
     if k == 0 {
-        return Force::Not;
+        return Ok(false);
     }
     if t.len() / WIDTH < k {
-        return Force::Refusal(10);
+        return Err(refused_at(NOT_VALID, 0));
     }
-    if last_named(ledger, t, k - 1, tag) == kind::PUSHTAG {
-        Force::Yes
-    } else {
-        Force::Not
+    match last_named(ledger, t, k - 1, tag) {
+        Some(kind) => Ok(kind == kind::PUSHTAG),
+        None => Ok(false),
     }
 }

@@ -8,7 +8,7 @@ use Rattle.text.specs.Leaves.{gap, hard_gap, currency}
 use Rattle.text.proofs.Joins.{required, must_reach}
 use Rattle.text.proofs.Inversions.{must_inv}
 use Rattle.text.proofs.TokenEnds.{gap_reach, currency_reach, hard_gap_reach}
-use Rattle.text.specs.Refusals.{required_number}
+use Rattle.text.specs.Refusals.{missing}
 use Rattle.amount.specs.Expression.{expression}
 use Rattle.amount.specs.Amounts.{amount, hard_currency, hard_amount, price_of}
 use Rattle.amount.proofs.ExpressionEnds.{expression_reach}
@@ -32,20 +32,20 @@ module _ (s : List ℕ) where
   pub hard_currency_fits : (at : ℕ) → at ≤ N → Fits s at (hard_currency s at)
   unfolding hard_currency
   hard_currency_fits at h =
-      bare_and N (at + 1) at (must required_number at (currency s at)) _ (must_reach N (at + 1) required at _ h (currency_reach s at)) (must_bare required_number at _ (currency_bare s at)) (λ e p q.
+      bare_and N (at + 1) at (must missing at (currency s at)) _ (must_reach N (at + 1) required at _ h (currency_reach s at)) (must_bare missing at _ (currency_bare s at)) (λ e p q.
       row_fits at e _ span_filled (omega arith))
 
   pub hard_amount_fits : {K : Kinds} (k at : ℕ) → at ≤ N → Of K k × (k < posting_kind) → FitsFrom K s at (hard_amount k s at)
   unfolding hard_amount
   hard_amount_fits k at i h =
-      then_read N (at + 1) at (must required_number at (expression s at)) _ (must_reach N (at + 1) required at _ i (expression_reach s at)) (λ e v w p₁ q₁.
-      bare_and N (e + 1) at (hard_gap required_number s e) _ (hard_gap_reach s e required q₁) (hard_gap_bare s e required_number) (λ c p₂ q₂.
-      bare_and N (c + 1) at (must required_number c (currency s c)) _ (must_reach N (c + 1) required c _ q₂ (currency_reach s c)) (must_bare required_number c _ (currency_bare s c)) (λ d p₃ q₃.
-      row_fits at d _ (valued_filled (λ z. omega arith) q₂ q₃ (read_small s at e v (must_inv required_number at (expression s at) e v w))) (omega arith))))
+      then_read N (at + 1) at (must missing at (expression s at)) _ (must_reach N (at + 1) required at _ i (expression_reach s at)) (λ e v w p₁ q₁.
+      bare_and N (e + 1) at (hard_gap missing s e) _ (hard_gap_reach s e required q₁) (hard_gap_bare s e missing) (λ c p₂ q₂.
+      bare_and N (c + 1) at (must missing c (currency s c)) _ (must_reach N (c + 1) required c _ q₂ (currency_reach s c)) (must_bare missing c _ (currency_bare s c)) (λ d p₃ q₃.
+      row_fits at d _ (valued_filled (λ z. omega arith) q₂ q₃ (read_small s at e v (must_inv missing at (expression s at) e v w))) (omega arith))))
 
   pub price_of_fits : (at : ℕ) → at ≤ N → Fits s at (price_of s at)
   unfolding price_of
   price_of_fits at h =
       and_fits N (at + 1) at (hard_currency s at) _ (hard_currency_reach s at h) (hard_currency_fits at h) (λ e p₁ q₁.
-      bare_and N (e + 1) e (hard_gap required_number s e) _ (hard_gap_reach s e required q₁) (hard_gap_bare s e required_number) (λ g p₂ q₂.
+      bare_and N (e + 1) e (hard_gap missing s e) _ (hard_gap_reach s e required q₁) (hard_gap_bare s e missing) (λ g p₂ q₂.
       fits_from g e _ (omega arith) (hard_amount_fits 26 g q₂ (omega arith))))

@@ -11,7 +11,7 @@ use Rattle.text.proofs.TokenEnds.{gap_reach, currency_reach, string_reach, hard_
 use Rattle.text.proofs.SharedLines.{Shared, told, gap_alike, currency_alike, hard_gap_alike}
 use Rattle.amount.specs.declared.detail.Detail.{Detail}
 use Rattle.amount.specs.Details.{quoted}
-use Rattle.text.specs.Refusals.{required_number}
+use Rattle.text.specs.Refusals.{missing}
 use Rattle.amount.specs.Expression.{expression}
 use Rattle.amount.specs.Amounts.{amount, hard_currency, hard_amount, price_of}
 use Rattle.amount.proofs.ExpressionEnds.{expression_reach}
@@ -37,20 +37,20 @@ module _ (s : List ℕ) where
   pub hard_currency_reach : (at : ℕ) → at ≤ N → Reach N (at + 1) (hard_currency s at)
   unfolding hard_currency
   hard_currency_reach at h =
-      and_reach N (at + 1) (at + 1) (must required_number at (currency s at)) _ (must_reach N (at + 1) required at (currency s at) h (currency_reach s at)) (λ e p q. to_reach N (at + 1) e _ p q)
+      and_reach N (at + 1) (at + 1) (must missing at (currency s at)) _ (must_reach N (at + 1) required at (currency s at) h (currency_reach s at)) (λ e p q. to_reach N (at + 1) e _ p q)
 
   pub hard_amount_reach : (k at : ℕ) → at ≤ N → Reach N (at + 1) (hard_amount k s at)
   unfolding hard_amount
   hard_amount_reach k at h =
-      then_reach N (at + 1) (at + 1) (must required_number at (expression s at)) _ (must_reach N (at + 1) required at _ h (expression_reach s at)) (λ e v p q.
-      and_reach N (e + 1) (at + 1) (hard_gap required_number s e) _ (hard_gap_reach s e required q) (λ c p₂ q₂.
-      and_reach N (c + 1) (at + 1) (must required_number c (currency s c)) _ (must_reach N (c + 1) required c _ q₂ (currency_reach s c)) (λ d p₃ q₃. to_reach N (at + 1) d _ (omega arith) q₃)))
+      then_reach N (at + 1) (at + 1) (must missing at (expression s at)) _ (must_reach N (at + 1) required at _ h (expression_reach s at)) (λ e v p q.
+      and_reach N (e + 1) (at + 1) (hard_gap missing s e) _ (hard_gap_reach s e required q) (λ c p₂ q₂.
+      and_reach N (c + 1) (at + 1) (must missing c (currency s c)) _ (must_reach N (c + 1) required c _ q₂ (currency_reach s c)) (λ d p₃ q₃. to_reach N (at + 1) d _ (omega arith) q₃)))
 
   pub price_of_reach : (at : ℕ) → at ≤ N → Reach N (at + 1) (price_of s at)
   unfolding price_of
   price_of_reach at h =
       and_reach N (at + 1) (at + 1) (hard_currency s at) _ (hard_currency_reach at h) (λ e p q.
-      and_reach N (e + 1) (at + 1) (hard_gap required_number s e) _ (hard_gap_reach s e required q) (λ g p₂ q₂.
+      and_reach N (e + 1) (at + 1) (hard_gap missing s e) _ (hard_gap_reach s e required q) (λ g p₂ q₂.
       reach_from N (g + 1) (at + 1) (hard_amount 26 s g) (omega arith) (hard_amount_reach 26 g q₂)))
 
 -- ---- they are read alike in two texts that share a line
@@ -64,14 +64,14 @@ module _ {Q : Type 0} {s z : List ℕ} {K P : ℕ → ℕ → Type 0} (L : Share
 
   pub hard_currency_alike : {i j : ℕ} → K i j → Alike Q K (hard_currency s i) (hard_currency z j)
   unfolding hard_currency
-  hard_currency_alike S = and_alike _ _ (must_alike required_number _ _ (told L S) (currency_alike L S)) (λ e f T. both_to e f _ _ T (λ q. rw (told L S q, told L T q)))
+  hard_currency_alike S = and_alike _ _ (must_alike missing _ _ (told L S) (currency_alike L S)) (λ e f T. both_to e f _ _ T (λ q. rw (told L S q, told L T q)))
 
   hard_amount_alike : (k : ℕ) {i j : ℕ} → K i j → Alike Q K (hard_amount k s i) (hard_amount k z j)
   unfolding hard_amount
   hard_amount_alike k S =
-      then_alike _ _ (must_alike required_number _ _ (told L S) (expression_alike L S)) (λ e f v w T t. and_alike _ _ (hard_gap_alike L required_number T) (λ c d U.
-      and_alike _ _ (must_alike required_number _ _ (told L U) (currency_alike L U)) (λ a b W. both_to a b _ _ W (λ q. rw (told L S q, told L T q, told L U q, told L W q, t q)))))
+      then_alike _ _ (must_alike missing _ _ (told L S) (expression_alike L S)) (λ e f v w T t. and_alike _ _ (hard_gap_alike L missing T) (λ c d U.
+      and_alike _ _ (must_alike missing _ _ (told L U) (currency_alike L U)) (λ a b W. both_to a b _ _ W (λ q. rw (told L S q, told L T q, told L U q, told L W q, t q)))))
 
   pub price_of_alike : {i j : ℕ} → K i j → Alike Q K (price_of s i) (price_of z j)
   unfolding price_of
-  price_of_alike S = and_alike _ _ (hard_currency_alike S) (λ e f T. and_alike _ _ (hard_gap_alike L required_number T) (λ c d U. hard_amount_alike 26 U))
+  price_of_alike S = and_alike _ _ (hard_currency_alike S) (λ e f T. and_alike _ _ (hard_gap_alike L missing T) (λ c d U. hard_amount_alike 26 U))

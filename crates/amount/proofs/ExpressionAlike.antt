@@ -1,4 +1,5 @@
 -- Rule 8 in two texts that share a line.
+use Rattle.decimal.specs.Faults.{Value}
 use Prim.Native.Nat.{ℕ, zero, suc, ◌+◌, ◌-◌, ◌≤◌}
 use native.Mathlib.Omega.{arith}
 use mathlib.Core.Path.{◌≡◌, refl}
@@ -7,7 +8,6 @@ use mathlib.Core.List.{List}
 use lib.Dec.{eqb}
 use lib.ListN.{length, get_or}
 use Rattle.decimal.specs.declared.Form.TheVariants.{Rounding}
-use Rattle.decimal.specs.declared.Value.{Value}
 use Rattle.text.specs.Bytes.{is_blank, is_space, is_digit, between}
 use Rattle.text.specs.Run.{run_to, blanks}
 use Rattle.text.specs.Answer.{Ans, To}
@@ -16,7 +16,7 @@ use Rattle.text.proofs.Joins.{Reach}
 use Rattle.text.proofs.Alike.{Alike, both_to, both_hard, then_alike, else_alike, cond_alike, if_alike, alike_from}
 use Rattle.text.proofs.SharedLines.{Shared, byte_same, told, step, run_both, run_alike, blanks_alike}
 use Rattle.amount.specs.Literal.{in_literal, is_number, literal_as, unsigned, literal}
-use Rattle.text.specs.Refusals.{deep_number}
+use Rattle.text.specs.Refusals.{too_deep}
 use Rattle.amount.specs.Expression.{Arithmetic, combined, expression_in, is_plus, is_times, goes_on, chain, atom, products, sums, negation, in_group, closed, group, groups, within, expression}
 use Rattle.amount.proofs.ExpressionEnds.{atom_reach, products_reach, group_reach}
 
@@ -117,7 +117,7 @@ module _ {Q : Type 0} {s z : List ℕ} {K P : ℕ → ℕ → Type 0} (L : Share
 
   group_alike : (calc : Arithmetic) (n : ℕ) → Readers (group calc n s) (group calc n z)
   unfolding group
-  group_alike calc zero i j S = rw (byte_same L S) (if_alike (eqb (get_or s i 0) 40) _ _ (λ _. both_hard deep_number i j (told L S)))
+  group_alike calc zero i j S = rw (byte_same L S) (if_alike (eqb (get_or s i 0) 40) _ _ (λ _. both_hard too_deep i j (told L S)))
   group_alike calc (suc n) i j S =
       rw (byte_same L S) (if_alike (eqb (get_or s i 0) 40) _ _
       (λ e. then_alike _ _ (in_group_alike_lem calc (group calc n s) (group calc n z) (group_alike calc n) (group_reach s calc n) (group_reach z calc n) _ _ (after (λ c. eqb c 40) refl S e)) closed_alike))

@@ -1,5 +1,6 @@
 -- Where rule 8's forms end: past their start, and within the text, where a group that opens too deep stands too. So as
 -- many turns as there are bytes are enough.
+use Rattle.decimal.specs.Faults.{Value}
 use Prim.Native.Nat.{ℕ, zero, suc, ◌+◌, ◌-◌, ◌≤◌, ◌<◌}
 use mathlib.Core.Path.{◌≡◌, refl, sym, ap, subst}
 use mathlib.Core.Bool.{Bool, true, false, cond}
@@ -11,14 +12,13 @@ use lib.Dec.{eqb}
 use lib.ListN.{get_or, length, take, drop}
 use Rattle.decimal.specs.declared.Form.{Form}
 use Rattle.decimal.specs.declared.Form.TheVariants.{Rounding}
-use Rattle.decimal.specs.declared.Value.{Value}
 use Rattle.text.specs.Bytes.{is_blank, is_space, between}
 use Rattle.text.specs.Run.{run_to, blanks}
 use Rattle.text.specs.Answer.{Ans, To, Miss, Hard, ◌then◌, ◌else◌}
 use Rattle.text.proofs.Steps.{byte_within, get_d_past, run_ends, run_from_lem, run_within, run_first}
 use Rattle.text.proofs.Joins.{deep, Reach, to_reach, miss_reach, hard_reach, reach_from, cond_reach, then_reach, else_reach}
 use Rattle.amount.specs.Literal.{in_literal, count, is_number, literal_as, unsigned, literal}
-use Rattle.text.specs.Refusals.{deep_number}
+use Rattle.text.specs.Refusals.{too_deep}
 use Rattle.amount.specs.Expression.{Arithmetic, combined, expression_in, negated_value, is_plus, is_times, goes_on, chain, atom, products, sums, negation, in_group, closed, group, groups, within, expression}
 
 -- ---- runs from any place
@@ -153,7 +153,7 @@ module _ (s : List ℕ) where
 
   pub group_reach : (calc : Arithmetic) (n at : ℕ) → Reach N (at + 1) (group calc n s at)
   unfolding group
-  group_reach calc zero at = if_reach N (at + 1) (eqb (get_or s at 0) 40) (Hard deep_number at)
+  group_reach calc zero at = if_reach N (at + 1) (eqb (get_or s at 0) 40) (Hard too_deep at)
       (λ t. let w = byte_within s at 40 (sym (eqb-true _ 40 t)) (omega arith) in hard_reach N (at + 1) deep at (omega arith))
   group_reach calc (suc n) at =
       let i = blanks s (at + 1) in

@@ -1,4 +1,6 @@
 -- The forms agree: shown once of any two arithmetics that keep a relation of values, and then of the two forms.
+use Rattle.std.specs.Prelude.{Err, Ok}
+use Rattle.decimal.specs.Faults.{Value}
 use Prim.Native.Nat.{ℕ, zero, suc, ◌+◌}
 use mathlib.Core.Path.{refl}
 use mathlib.Core.Bool.{Bool, true, false, cond}
@@ -7,13 +9,11 @@ use lib.Dec.{eqb}
 use lib.ListN.{get_or, length}
 use Rattle.decimal.specs.declared.Decimal.{Decimal}
 use Rattle.decimal.specs.declared.Form.TheVariants.{Exact, Rounding}
-use Rattle.decimal.specs.declared.Value.{Value}
-use Rattle.decimal.specs.declared.Value.TheVariants.{Known, Refused}
 use Rattle.decimal.specs.Exact.{Knows, sum, difference, product, quotient}
 use Rattle.decimal.proofs.ExactKept.{product_kept, quotient_kept}
 use Rattle.text.specs.Run.{blanks}
 use Rattle.text.specs.Answer.{Ans, To, Miss, Hard, ◌then◌, ◌else◌}
-use Rattle.text.specs.Refusals.{deep_number}
+use Rattle.text.specs.Refusals.{too_deep}
 use Rattle.amount.specs.Literal.{literal}
 use Rattle.amount.specs.Expression.{Arithmetic, negated_value, operated, combined, is_plus, is_times, goes_on, chain, atom, products, sums, negation, in_group, closed, group, groups, within, expression_in}
 use Rattle.amount.specs.Agreement.{Alike, FormsAgree}
@@ -81,7 +81,7 @@ module _ (R : Value → Value → Type 0) where
 
     group_alike : (n at : ℕ) → Alike R (group one n s at) (group two n s at)
     unfolding group closed
-    group_alike zero at = itself (cond (eqb (get_or s at 0) 40) (Hard deep_number at) Miss)
+    group_alike zero at = itself (cond (eqb (get_or s at 0) 40) (Hard too_deep at) Miss)
     group_alike (suc n) at =
         let i = blanks s (at + 1) in
         cond_alike (eqb (get_or s at 0) 40) _ Miss _ Miss
@@ -98,8 +98,8 @@ module _ (R : Value → Value → Type 0) where
 
 negates_known : (v w : Value) → Knows v w → Knows (negated_value v) (negated_value w)
 unfolding negated_value
-negates_known (Known x) w h = rw (h x refl) (λ a e. e)
-negates_known (Refused n) w h = λ a e. cc
+negates_known (Ok x) w h = rw (h x refl) (λ a e. e)
+negates_known (Err n) w h = λ a e. cc
 
 operated_known : (op : ℕ) (x y : Decimal) → Knows (operated Exact op x y) (operated Rounding op x y)
 unfolding operated
@@ -113,9 +113,9 @@ operated_known op x y = on (eqb op 43) (eqb op 45) (eqb op 42)
 
 keeps_known : (op : ℕ) (v w x y : Value) → Knows v w → Knows x y → Knows (combined Exact op v x) (combined Rounding op w y)
 unfolding combined
-keeps_known op (Known a) w (Known b) y h k = rw (h a refl, k b refl) (operated_known op a b)
-keeps_known op (Known a) w (Refused n) y h k = λ b e. cc
-keeps_known op (Refused n) w x y h k = λ b e. cc
+keeps_known op (Ok a) w (Ok b) y h k = rw (h a refl, k b refl) (operated_known op a b)
+keeps_known op (Ok a) w (Err n) y h k = λ b e. cc
+keeps_known op (Err n) w x y h k = λ b e. cc
 
 pub forms_agree : FormsAgree
 unfolding expression_in

@@ -1,6 +1,11 @@
 -- The answers of the code that reads a literal: at each return, and each way round a loop, what the code knows there. r
 -- is what its test for a digit gave.
-use Prim.Native.Nat.{ℕ, ◌+◌, ◌-◌, ◌*◌, ◌^◌, ◌≤◌, ◌<◌}
+use Rattle.text.specs.steps.Told.{Reading}
+use Rattle.text.specs.declared.stop.Stop.{Stop}
+use Rattle.decimal.specs.Faults.{Value}
+use Rattle.decimal.specs.declared.Fault.{Fault}
+use Rattle.std.specs.Prelude.{Err, Ok}
+use Prim.Native.Nat.{ℕ, ◌+◌, ◌-◌, ◌*◌, ◌^◌, ◌≤◌, ◌<◌, max}
 use mathlib.Core.Path.{◌≡◌, sym, ◌∙◌, ap}
 use mathlib.Core.Bool.{Bool, true, false, cond}
 use mathlib.Core.List.{List}
@@ -13,15 +18,12 @@ use mir.Val.{Fits}
 use borrow.Author.Tests.{lt-ltb, le-ltb, eq-eqb, ne_eqb}
 use borrow.Author.Rules.{Fits-under}
 use Rattle.decimal.specs.steps.Judged.{judged_of}
-use Rattle.decimal.specs.declared.Value.{Value}
-use Rattle.decimal.specs.declared.Value.TheVariants.{Refused}
 use Rattle.text.specs.Bytes.{is_digit, is_space}
 use Rattle.text.specs.Run.{run_to}
 use Rattle.text.proofs.Steps.{get_d_past, byte_within}
 use Rattle.amount.specs.Literal.{unsigned, literal}
 use Rattle.amount.specs.steps.Answers.{answer_of}
 use Rattle.amount.specs.steps.Kept.{whole_from, fraction_from, factor, kept_value, ended, whole_literal, point_literal, whole_limit, kept_limit}
-use Rattle.amount.specs.declared.expression.Answer.{Answer}
 use Rattle.amount.specs.declared.literal.Whole.{Whole}
 use Rattle.amount.specs.declared.literal.Fraction.{Fraction}
 use Rattle.amount.proofs.Digits.{factor_pos, factor_more}
@@ -55,8 +57,13 @@ module _ (a : Whole) (n : ℕ) (seen : Bool) (s : List ℕ) (i : ℕ) (v : a ≡
   pub whole_out : r ≡ false → (get_or s i 0 ≡ 44 → ⊥) → record { end = i; size = n; digits = seen } ≡ a
   whole_out t c = sym (v ∙ whole_stops n seen s i h (sym e ∙ t) c)
 
-pub whole_done : (a : Whole) (n : ℕ) (seen : Bool) (s : List ℕ) (i : ℕ) → a ≡ whole_from n seen (drop i s) i → length s ≤ i → record { end = i; size = n; digits = seen } ≡ a
-whole_done a n seen s i v h = sym (v ∙ whole_ends n seen s i h)
+-- the loop from `at` on is over
+over : (s : List ℕ) (at i j : ℕ) → length s ≤ i → at ≤ i → i ≤ max at (length s) → j ≡ max at (length s) → j ≡ i
+over s at i j h l m e = omega arith
+
+pub whole_done : (a : Whole) (n : ℕ) (seen : Bool) (s : List ℕ) (at i j : ℕ) → a ≡ whole_from n seen (drop i s) i → length s ≤ i → at ≤ i → i ≤ max at (length s)
+    → j ≡ max at (length s) → record { end = j; size = n; digits = seen } ≡ a
+whole_done a n seen s at i j v h l m e = rw (over s at i j h l m e) (sym (v ∙ whole_ends n seen s i h))
 
 pub ruleset whole_laws = (digit_low, small_more, small_fits, whole_grown, whole_full, whole_skip, whole_out, whole_done)
 
@@ -103,8 +110,9 @@ module _ (a : Fraction) (n k : ℕ) (seen tail : Bool) (s : List ℕ) (i : ℕ) 
   pub fraction_out : r ≡ false → (get_or s i 0 ≡ 44 → ⊥) → record { end = i; size = n; places = k; digits = seen; tail = tail } ≡ a
   fraction_out t c = sym (v ∙ fraction_stops n k seen tail s i h (sym e ∙ t) c)
 
-pub fraction_done : (a : Fraction) (n k : ℕ) (seen tail : Bool) (s : List ℕ) (i : ℕ) → a ≡ fraction_from n k seen tail (drop i s) i → length s ≤ i → record { end = i; size = n; places = k; digits = seen; tail = tail } ≡ a
-fraction_done a n k seen tail s i v h = sym (v ∙ fraction_ends n k seen tail s i h)
+pub fraction_done : (a : Fraction) (n k : ℕ) (seen tail : Bool) (s : List ℕ) (at i j : ℕ) → a ≡ fraction_from n k seen tail (drop i s) i → length s ≤ i → at ≤ i
+    → i ≤ max at (length s) → j ≡ max at (length s) → record { end = j; size = n; places = k; digits = seen; tail = tail } ≡ a
+fraction_done a n k seen tail s at i j v h l m e = rw (over s at i j h l m e) (sym (v ∙ fraction_ends n k seen tail s i h))
 
 pub ruleset fraction_laws = (digit_low, room_times, room_same, room_left, room_fits, room_more, place_grown, past_zero, past_other, fraction_skip, fraction_out, fraction_done)
 
@@ -122,7 +130,7 @@ pub ruleset factor_laws = (factor_at, factor_none)
 
 -- f is the power
 module _ (m : Bool) (w n k : ℕ) (tail : Bool) where
-  pub value_large : 1000000000 ≤ w → Refused 6 ≡ kept_value m w n k tail
+  pub value_large : 1000000000 ≤ w → Err Fault.TooLarge ≡ kept_value m w n k tail
   unfolding kept_value
   value_large l = rw (le-ltb w 1000000000 l)
 
@@ -148,31 +156,31 @@ unfolding factor
 whole_room n h = omega arith
 
 module _ (m : Bool) (w : Whole) where
-  pub whole_read : (v : Value) → w.digits ≡ true → v ≡ kept_value m w.size w.size 0 false → Answer.Read w.end v ≡ answer_of (whole_literal m w)
+  pub whole_read : (v : Value) → w.digits ≡ true → v ≡ kept_value m w.size w.size 0 false → Ok (w.end, v) ≡ answer_of (whole_literal m w)
   unfolding answer_of whole_literal
   whole_read v d e = rw (d, e)
 
-  pub whole_miss : w.digits ≡ false → Answer.Miss ≡ answer_of (whole_literal m w)
+  pub whole_miss : w.digits ≡ false → (Err Stop.Miss) ≡ answer_of (whole_literal m w)
   unfolding answer_of whole_literal
   whole_miss d = rw d
 
   module _ (s : List ℕ) (f : Fraction) (e : f ≡ fraction_from w.size 0 w.digits false (drop (w.end + 1) s) (w.end + 1)) (b : ℕ) (q : b ≡ get_or s f.end 0) where
-    pub second_point : b ≡ 46 → Answer.Miss ≡ answer_of (point_literal m s w)
+    pub second_point : b ≡ 46 → (Err Stop.Miss) ≡ answer_of (point_literal m s w)
     unfolding answer_of point_literal ended
     second_point p = rw (← e, ← q, p)
 
-    pub point_read : (v : Value) → (b ≡ 46 → ⊥) → f.digits ≡ true → v ≡ kept_value m w.size f.size f.places f.tail → Answer.Read f.end v ≡ answer_of (point_literal m s w)
+    pub point_read : (v : Value) → (b ≡ 46 → ⊥) → f.digits ≡ true → v ≡ kept_value m w.size f.size f.places f.tail → Ok (f.end, v) ≡ answer_of (point_literal m s w)
     unfolding answer_of point_literal ended
     point_read v p d g = rw (← e, ← q, ne_eqb b 46 p, d, g)
 
-    pub point_miss : (b ≡ 46 → ⊥) → f.digits ≡ false → Answer.Miss ≡ answer_of (point_literal m s w)
+    pub point_miss : (b ≡ 46 → ⊥) → f.digits ≡ false → (Err Stop.Miss) ≡ answer_of (point_literal m s w)
     unfolding answer_of point_literal ended
     point_miss p d = rw (← e, ← q, ne_eqb b 46 p, d)
 
 pub ruleset answer_laws = (whole_room, whole_read, whole_miss, second_point, point_read, point_miss)
 
 -- after the whole part w: a point, another byte, or the end
-module _ (m : Bool) (s : List ℕ) (at c : ℕ) (w : Whole) (e : c ≡ run_to is_space s at) (f : w ≡ whole_from 0 false (drop c s) c) (a : Answer) where
+module _ (m : Bool) (s : List ℕ) (at c : ℕ) (w : Whole) (e : c ≡ run_to is_space s at) (f : w ≡ whole_from 0 false (drop c s) c) (a : Reading Value) where
   pub point_met : get_or s w.end 0 ≡ 46 → a ≡ answer_of (point_literal m s w) → a ≡ answer_of (unsigned m s at)
   point_met p g = rw (point_is m s at c w e f p) g
 
@@ -198,7 +206,7 @@ module _ (s : List ℕ) (at b : ℕ) (q : b ≡ get_or s at 0) where
 pub ruleset sign_laws = (minus_fits, minus_met, none_met)
 
 -- b is the byte where a sign may stand, e where it ends
-pub sign_met : (s : List ℕ) (at e b : ℕ) (a : Answer) → b ≡ get_or s at 0 → e ≡ cond (eqb (get_or s at 0) 45) (at + 1) at → a ≡ answer_of (unsigned (eqb b 45) s e)
+pub sign_met : (s : List ℕ) (at e b : ℕ) (a : Reading Value) → b ≡ get_or s at 0 → e ≡ cond (eqb (get_or s at 0) 45) (at + 1) at → a ≡ answer_of (unsigned (eqb b 45) s e)
     → a ≡ answer_of (literal s at)
 unfolding literal
 sign_met s at e b a q h g = go (eqb (get_or s at 0) 45) (g ∙ ap (λ n. answer_of (unsigned (eqb n 45) s e)) q ∙ ap (λ n. answer_of (unsigned (eqb (get_or s at 0) 45) s n)) h)

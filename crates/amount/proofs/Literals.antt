@@ -1,4 +1,5 @@
 -- What the code keeps of a literal settles as the literal of the rule.
+use Rattle.decimal.specs.Faults.{Value}
 use Prim.Native.Nat.{ℕ, suc, ◌+◌, ◌-◌, ◌*◌, ◌^◌, ◌<◌}
 use mathlib.Core.Path.{◌≡◌, refl, ap, ◌∙◌}
 use mathlib.Core.Bool.{Bool, true, false, cond, ◌&&◌, ◌||◌, or-true, or-false, and-true, and-false}
@@ -10,7 +11,6 @@ use lib.Dec.{eqb, leb}
 use lib.ListN.{length, take, drop, get_or}
 use borrow.Author.Tests.{le-leb, lt-leb, ne_eqb}
 use Rattle.decimal.specs.Exact.{exact}
-use Rattle.decimal.specs.declared.Value.{Value}
 use Rattle.text.specs.Bytes.{is_digit, is_space, between}
 use Rattle.text.specs.Run.{run_to}
 use Rattle.text.specs.Answer.{Ans, To, Miss}

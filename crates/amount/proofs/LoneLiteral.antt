@@ -1,4 +1,7 @@
 -- A literal that no operator follows is all of an expression, so the code need not try the other forms there.
+use Rattle.std.specs.Prelude.{Ok}
+use Rattle.text.specs.steps.Told.{Reading}
+use Rattle.decimal.specs.Faults.{Value}
 use Prim.Native.Nat.{ℕ, ◌+◌, ◌<◌}
 use mathlib.Core.Path.{◌≡◌, refl, sym, ◌∙◌}
 use mathlib.Core.Bool.{Bool, true, false, ◌||◌}
@@ -10,7 +13,6 @@ use lib.Dec.{eqb}
 use lib.ListN.{get_or, length}
 use Rattle.decimal.specs.declared.Form.{Form}
 use Rattle.decimal.specs.declared.Form.TheVariants.{Exact, Rounding}
-use Rattle.decimal.specs.declared.Value.{Value}
 use Rattle.text.specs.Bytes.{is_blank, is_space, is_digit, between}
 use Rattle.text.specs.Run.{run_to, blanks}
 use Rattle.text.specs.Answer.{Ans, To, Miss, ◌then◌, ◌else◌}
@@ -19,10 +21,8 @@ use Rattle.text.proofs.Steps.{run_on, run_stops, run_same, run_first}
 use Rattle.amount.specs.Literal.{in_literal, literal_as, unsigned, literal}
 use Rattle.amount.specs.Expression.{Arithmetic, combined, groups, expression_in, expression, is_plus, is_times, chain, atom, products, sums, negation, in_group, group, within}
 use Rattle.amount.specs.steps.Answers.{answer_of, operator_of}
-use Rattle.amount.specs.declared.expression.Answer.{Answer}
-use Rattle.amount.proofs.Forms.{was_read, was_deep, group_misses}
+use Rattle.amount.proofs.Forms.{was_read, group_misses}
 use Rattle.amount.proofs.ExpressionEnds.{none_between, goes_off}
-use Rattle.amount.proofs.Refusals.{literal_soft}
 
 -- ---- no group opens after the sign of a literal
 
@@ -88,19 +88,16 @@ unfolding operator_of
 operator_after s at i b x y p q u v = rw (← p, ← q, u, v)
 
 -- r is the answer of the literal, and t whether an operator follows
-module _ (s : List ℕ) (at : ℕ) (r : Answer) (p : r ≡ answer_of (literal s at)) (calc : Arithmetic) (n : ℕ) where
-  pub lone_read : (e : ℕ) (v : Value) (t : Bool) → r ≡ Answer.Read e v → t ≡ (is_plus (get_or s (blanks s e) 0) || is_times (get_or s (blanks s e) 0)) → t ≡ false → Answer.Read e v ≡ answer_of (within calc n s at)
+module _ (s : List ℕ) (at : ℕ) (r : Reading Value) (p : r ≡ answer_of (literal s at)) (calc : Arithmetic) (n : ℕ) where
+  pub lone_read : (e : ℕ) (v : Value) (t : Bool) → r ≡ Ok (e, v) → t ≡ (is_plus (get_or s (blanks s e) 0) || is_times (get_or s (blanks s e) 0)) → t ≡ false → r ≡ answer_of (within calc n s at)
   unfolding answer_of
   lone_read e v t q f o =
       let b = get_or s (blanks s e) 0 in
-      rw (lone s e v calc n at (was_read (literal s at) r e v p q) (or_left (is_plus b) (is_times b) (sym f ∙ o)) (or_right (is_plus b) (is_times b) (sym f ∙ o)))
-
-  pub lone_deep : (i : ℕ) → r ≡ Answer.Deep i → Answer.Deep i ≡ answer_of (within calc n s at)
-  lone_deep i q = let h = was_deep (literal s at) r i p q in absurd (literal_soft s at h.0 i h.1)
+      rw (q, lone s e v calc n at (was_read (literal s at) r e v p q) (or_left (is_plus b) (is_times b) (sym f ∙ o)) (or_right (is_plus b) (is_times b) (sym f ∙ o)))
 
 -- ---- an expression in a form: the exact one takes no short way
 
-module _ (form : Form) (s : List ℕ) (at : ℕ) (r : Answer) where
+module _ (form : Form) (s : List ℕ) (at : ℕ) (r : Reading Value) where
   pub in_exact : form ≡ Exact → r ≡ answer_of (within (combined Exact) groups s at) → r ≡ answer_of (expression_in form s at)
   unfolding expression_in
   in_exact e p = rw e p
@@ -111,4 +108,4 @@ module _ (form : Form) (s : List ℕ) (at : ℕ) (r : Answer) where
 
 pub ruleset form_laws = (in_exact, in_rounding)
 
-pub ruleset lone_laws = (operator_after, lone_read, lone_deep)
+pub ruleset lone_laws = (operator_after, lone_read)

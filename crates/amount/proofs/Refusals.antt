@@ -1,4 +1,6 @@
 -- An expression's only hard miss is refusal 3, and a literal has none.
+use Rattle.text.specs.declared.stop.Cause.{Cause}
+use Rattle.decimal.specs.Faults.{Value}
 use Prim.Native.Nat.{ℕ, zero, suc, ◌+◌}
 use mathlib.Core.Path.{◌≡◌, refl, subst}
 use mathlib.Core.Bool.{Bool, true, false, cond}
@@ -7,28 +9,27 @@ use lib.Dec.{eqb}
 use lib.ListN.{get_or, length}
 use Rattle.decimal.specs.declared.Form.{Form}
 use Rattle.decimal.specs.declared.Form.TheVariants.{Rounding}
-use Rattle.decimal.specs.declared.Value.{Value}
 use Rattle.text.specs.Run.{blanks}
 use Rattle.text.specs.Answer.{Ans, To, Miss, Hard, ◌then◌, ◌else◌}
-use Rattle.text.specs.Refusals.{deep_number}
+use Rattle.text.specs.Refusals.{too_deep}
 use Rattle.amount.specs.Literal.{is_number, literal_as, unsigned, literal}
 use Rattle.amount.specs.Expression.{Arithmetic, combined, expression_in, is_plus, is_times, goes_on, chain, atom, products, sums, negation, in_group, closed, group, groups, within, expression}
 
--- the numbers of an answer's refusals are such
-abbrev Only : (ℕ → Type 0) → Ans Value → Type 0
+-- the causes of an answer's refusals are such
+abbrev Only : (Cause → Type 0) → Ans Value → Type 0
 Only P (To e v) = Unit {0}
 Only P Miss = Unit {0}
 Only P (Hard k p) = P k
 
 abbrev pub Three : Ans Value → Type 0
-Three = Only (λ k. k ≡ 3)
+Three = Only (λ k. k ≡ too_deep)
 
-cond_only : (P : ℕ → Type 0) (b : Bool) (x y : Ans Value) → Only P x → Only P y → Only P (cond b x y)
+cond_only : (P : Cause → Type 0) (b : Bool) (x y : Ans Value) → Only P x → Only P y → Only P (cond b x y)
 cond_only P true x y p q = p
 cond_only P false x y p q = q
 
 abbrev cond_three : (b : Bool) (x y : Ans Value) → Three x → Three y → Three (cond b x y)
-cond_three = cond_only (λ k. k ≡ 3)
+cond_three = cond_only (λ k. k ≡ too_deep)
 
 else_three : (a b : Ans Value) → Three a → Three b → Three (a else b)
 unfolding ◌else◌
@@ -44,15 +45,15 @@ then_three (Hard k i) f p q = p
 
 module _ (s : List ℕ) where
   -- a literal is refused by none
-  unsigned_only : (P : ℕ → Type 0) (m : Bool) (b : ℕ) → Only P (unsigned m s b)
+  unsigned_only : (P : Cause → Type 0) (m : Bool) (b : ℕ) → Only P (unsigned m s b)
   unfolding unsigned literal_as
   unsigned_only P m b = cond_only P (is_number _) (To _ _) Miss tt tt
 
-  literal_only : (P : ℕ → Type 0) (at : ℕ) → Only P (literal s at)
+  literal_only : (P : Cause → Type 0) (at : ℕ) → Only P (literal s at)
   unfolding literal
   literal_only P at = cond_only P (eqb (get_or s at 0) 45) (unsigned true s (at + 1)) (unsigned false s at) (unsigned_only P true (at + 1)) (unsigned_only P false at)
 
-  pub literal_soft : (at k p : ℕ) → literal s at ≡ Hard k p → ⊥
+  pub literal_soft : (at : ℕ) (k : Cause) (p : ℕ) → literal s at ≡ Hard k p → ⊥
   literal_soft at k p e = subst (Only (λ _. ⊥)) e (literal_only (λ _. ⊥) at)
 
   module _ (calc : Arithmetic) (op : ℕ → Bool) (x : ℕ → Ans Value) (X : (i : ℕ) → Three (x i)) where
@@ -73,7 +74,7 @@ module _ (s : List ℕ) where
   module _ (calc : Arithmetic) (g : ℕ → Ans Value) (G : (i : ℕ) → Three (g i)) where
     atom_three : (at : ℕ) → Three (atom g s at)
     unfolding atom
-    atom_three at = else_three (literal s at) (g at) (literal_only (λ k. k ≡ 3) at) (G at)
+    atom_three at = else_three (literal s at) (g at) (literal_only (λ k. k ≡ too_deep) at) (G at)
 
     products_three : (at : ℕ) → Three (products calc g s at)
     unfolding products
@@ -93,7 +94,7 @@ module _ (s : List ℕ) where
 
   group_three : (calc : Arithmetic) (n at : ℕ) → Three (group calc n s at)
   unfolding group closed
-  group_three calc zero at = cond_three (eqb (get_or s at 0) 40) (Hard deep_number at) Miss refl tt
+  group_three calc zero at = cond_three (eqb (get_or s at 0) 40) (Hard too_deep at) Miss refl tt
   group_three calc (suc n) at =
       cond_three (eqb (get_or s at 0) 40) _ Miss
       (then_three (in_group calc (group calc n s) s (blanks s (at + 1))) (closed s) (in_group_three calc (group calc n s) (group_three calc n) (blanks s (at + 1)))

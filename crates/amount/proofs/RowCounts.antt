@@ -1,6 +1,10 @@
 -- The rows of a reading from k to j: they stand in order of start, start from k to j, at j only in mid-line, end at j
 -- at the latest, have the kinds that their rule makes, and are no more than the bytes. What they hold fits: places of
 -- the text, dates, bytes, and values within the limit. Tokens make none.
+use Rattle.text.specs.declared.stop.Cause.{Cause}
+use Rattle.text.specs.declared.stop.Stop.{Stop}
+use Rattle.decimal.specs.Faults.{Value}
+use Rattle.std.specs.Prelude.{None, Option, Some, Err, Ok, Result}
 use Prim.Native.Nat.{ℕ, zero, suc, ◌+◌, ◌-◌, ◌≤◌, ◌<◌}
 use native.Mathlib.Omega.{arith}
 use mathlib.Core.Path.{◌≡◌, refl, subst}
@@ -9,19 +13,16 @@ use mathlib.Core.List.{List, [], ◌∷◌, ◌++◌}
 use borrow.Author.Tests.{eqb-true, ne_eqb}
 use lib.Dec.{eqb}
 use lib.ListN.{length, get_or, length-append}
-use Rattle.decimal.specs.declared.Value.{Value}
 use Rattle.text.specs.Strings.{string_at}
 use Rattle.text.specs.Tags.{marked_at}
 use Rattle.text.specs.Answer.{Ans, To, Miss, Hard, ◌then◌, must, ◌else◌, more, ◌and◌, maybe, many}
 use Rattle.text.specs.Leaves.{token, gap, comma, line_end, empty_line, string, currency, tag, link, word, byte, hard_gap}
 use Rattle.text.specs.Accounts.{account}
 use Rattle.text.specs.steps.Accounts.{account_at, account_answer}
-use Rattle.text.specs.declared.Read.{Read}
-use Rattle.text.specs.declared.account.AccountRead.{AccountRead}
 use Rattle.text.proofs.AccountLaws.{account_answers}
 use Rattle.text.proofs.Joins.{Reach}
 use Rattle.text.proofs.TokenEnds.{string_reach}
-use Rattle.text.specs.Refusals.{second_part_number}
+use Rattle.text.specs.Refusals.{missing_part}
 use Rattle.amount.specs.declared.detail.Detail.{Detail}
 use Rattle.amount.specs.Details.{Rows, span, named, valued, quoted}
 pub use Rattle.amount.specs.Kinds.{flag_kind, cost_kind, posting_kind, refusal_kind}
@@ -145,7 +146,7 @@ module _ {A : Type 0} {K : Kinds} {s : List ℕ} {w : A → List Detail} where
   pub miss_fits : (k : ℕ) → Holds K s w k Miss
   miss_fits k = record { rows = tt }
 
-  pub hard_fits : (k i p : ℕ) → Holds K s w k (Hard i p)
+  pub hard_fits : (k : ℕ) (i : Cause) (p : ℕ) → Holds K s w k (Hard i p)
   hard_fits k i p = record { rows = tt }
 
   -- what was read
@@ -162,7 +163,7 @@ module _ {A : Type 0} {K : Kinds} {s : List ℕ} {w : A → List Detail} where
   fits_wide L k Miss b r = record { rows = tt }
   fits_wide L k (Hard i p) b r = record { rows = tt }
 
-  pub must_fits : (k n at : ℕ) (a : Ans A) → Holds K s w k a → Holds K s w k (must n at a)
+  pub must_fits : (k : ℕ) (n : Cause) (at : ℕ) (a : Ans A) → Holds K s w k a → Holds K s w k (must n at a)
   unfolding must
   must_fits k n at (To j x) r = r
   must_fits k n at Miss r = hard_fits k n at
@@ -234,17 +235,17 @@ Empty (Hard k p) = Unit {0}
 pub record Bare (a : Rows) : Type 0 where
   pub none : Empty a
 
-pub token_bare : (r : Read) → Bare (token r)
+pub token_bare : (r : Option ℕ) → Bare (token r)
 unfolding token
-token_bare (Read.To j) = record { none = refl }
-token_bare Read.Miss = record { none = tt }
+token_bare (Some j) = record { none = refl }
+token_bare None = record { none = tt }
 
 -- a byte that is tested for
 pub test_bare : (b : Bool) (j : ℕ) → Bare (cond b (To j []) Miss)
 test_bare true j = record { none = refl }
 test_bare false j = record { none = tt }
 
-pub must_bare : (n at : ℕ) (a : Rows) → Bare a → Bare (must n at a)
+pub must_bare : (n : Cause) (at : ℕ) (a : Rows) → Bare a → Bare (must n at a)
 unfolding must
 must_bare n at (To j x) h = h
 must_bare n at Miss h = record { none = tt }
@@ -276,7 +277,7 @@ module _ (s : List ℕ) (at : ℕ) where
   unfolding comma
   comma_bare = token_bare _
 
-  pub hard_gap_bare : (n : ℕ) → Bare (hard_gap n s at)
+  pub hard_gap_bare : (n : Cause) → Bare (hard_gap n s at)
   unfolding hard_gap
   hard_gap_bare n = must_bare n at _ gap_bare
 
@@ -292,10 +293,10 @@ module _ (s : List ℕ) (at : ℕ) where
   unfolding account_answer
   account_bare = rw (account_answers s at) (on (account_at s at))
     where
-      on : (r : AccountRead) → Bare (account_answer second_part_number at r)
-      on (AccountRead.To j) = record { none = refl }
-      on AccountRead.Miss = record { none = tt }
-      on AccountRead.Hard = record { none = tt }
+      on : (r : Result ℕ Stop) → Bare (account_answer r)
+      on (Ok j) = record { none = refl }
+      on (Err Stop.Miss) = record { none = tt }
+      on (Err (Stop.Hard missing_part at)) = record { none = tt }
 
   pub currency_bare : Bare (currency s at)
   unfolding currency
@@ -311,12 +312,12 @@ module _ (s : List ℕ) (at : ℕ) where
 
 -- ---- strings, tags and links, and what follows: it knows that behind their mark it is mid-line
 
-marked_and : {K : Kinds} (s : List ℕ) (n i k at m : ℕ) (r : Read) (g : ℕ → Rows) → (m ≡ 10 → ⊥) → Reach n i (token {A = Detail} (cond (eqb (get_or s at 0) m) r Read.Miss))
-    → (mid_line s (at + 1) ≡ 1 → (j : ℕ) → i ≤ j → j ≤ n → FitsFrom K s k (g j)) → FitsFrom K s k (token (cond (eqb (get_or s at 0) m) r Read.Miss) and g)
+marked_and : {K : Kinds} (s : List ℕ) (n i k at m : ℕ) (r : Option ℕ) (g : ℕ → Rows) → (m ≡ 10 → ⊥) → Reach n i (token {A = Detail} (cond (eqb (get_or s at 0) m) r None))
+    → (mid_line s (at + 1) ≡ 1 → (j : ℕ) → i ≤ j → j ≤ n → FitsFrom K s k (g j)) → FitsFrom K s k (token (cond (eqb (get_or s at 0) m) r None) and g)
 unfolding ◌and◌ token
 marked_and {K = K} s n i k at m r g h reach f = go (eqb (get_or s at 0) m) refl reach
   where
-    go : (t : Bool) → eqb (get_or s at 0) m ≡ t → Reach n i (token {A = Detail} (cond t r Read.Miss)) → FitsFrom K s k (token (cond t r Read.Miss) and g)
+    go : (t : Bool) → eqb (get_or s at 0) m ≡ t → Reach n i (token {A = Detail} (cond t r None)) → FitsFrom K s k (token (cond t r None) and g)
     go true e reach = bare_and n i k (token r) g reach (token_bare r) (f (mid_line_lem s at m (eqb-true (get_or s at 0) m e) h))
     go false e reach = miss_fits k
 

@@ -1,20 +1,21 @@
 -- The answers of the functions on values, each from what the code knows where it gives it.
+use Rattle.decimal.specs.declared.Fault.{Fault}
+use Rattle.std.specs.Prelude.{Err, Ok}
+use Rattle.decimal.specs.Faults.{Value}
 use Prim.Native.Nat.{ℕ}
 use mathlib.Core.Path.{◌≡◌}
 use borrow.Author.Tests.{ne_eqb}
 use Rattle.decimal.specs.Exact.{negated, sum, difference, product, quotient}
 use Rattle.decimal.specs.declared.Form.{Form}
 use Rattle.decimal.specs.declared.Decimal.{Decimal}
-use Rattle.decimal.specs.declared.Value.{Value}
-use Rattle.decimal.specs.declared.Value.TheVariants.{Known, Refused}
 use Rattle.amount.specs.Expression.{negated_value, operated, combined}
 
 module _ (v r : Value) where
-  pub negated_known : (a : Decimal) → v ≡ Known a → r ≡ negated a → r ≡ negated_value v
+  pub negated_known : (a : Decimal) → v ≡ Ok a → r ≡ negated a → r ≡ negated_value v
   unfolding negated_value
   negated_known a p q = rw p q
 
-  pub negated_refused : (n : ℕ) → v ≡ Refused n → Refused n ≡ negated_value v
+  pub negated_refused : (n : Fault) → v ≡ Err n → Err n ≡ negated_value v
   unfolding negated_value
   negated_refused n p = rw p
 
@@ -37,15 +38,15 @@ module _ (form : Form) (op : ℕ) (a b : Decimal) (r : Value) where
   by_over d e f q = rw (ne_eqb op 43 d, ne_eqb op 45 e, ne_eqb op 42 f) q
 
 module _ (form : Form) (op : ℕ) (v w : Value) where
-  pub both_known : (a b : Decimal) (r : Value) → v ≡ Known a → w ≡ Known b → r ≡ operated form op a b → r ≡ combined form op v w
+  pub both_known : (a b : Decimal) (r : Value) → v ≡ Ok a → w ≡ Ok b → r ≡ operated form op a b → r ≡ combined form op v w
   unfolding combined
   both_known a b r p q u = rw (p, q) u
 
-  pub right_refused : (a : Decimal) (n : ℕ) → v ≡ Known a → w ≡ Refused n → Refused n ≡ combined form op v w
+  pub right_refused : (a : Decimal) (n : Fault) → v ≡ Ok a → w ≡ Err n → Err n ≡ combined form op v w
   unfolding combined
   right_refused a n p q = rw (p, q)
 
-  pub left_refused : (n : ℕ) → v ≡ Refused n → Refused n ≡ combined form op v w
+  pub left_refused : (n : Fault) → v ≡ Err n → Err n ≡ combined form op v w
   unfolding combined
   left_refused n p = rw p
 

@@ -1,5 +1,8 @@
 -- A value that an expression gives is within the limit, in any form, or refused by 6, 7 or 8; and what refuses the
 -- expression itself is a group that opens too deep.
+use Rattle.decimal.specs.declared.Fault.{Fault}
+use Rattle.std.specs.Prelude.{Err, Ok}
+use Rattle.decimal.specs.Faults.{Value, number_of}
 use Prim.Native.Nat.{ℕ, zero, suc, ◌+◌, ◌*◌, ◌/◌, ◌%◌, ◌≤◌}
 use native.Mathlib.Nat.{div-le_of_le-mul, mul_comm}
 use native.Mathlib.Omega.{arith}
@@ -16,12 +19,10 @@ use Rattle.decimal.specs.Rounding.{nearest}
 use Rattle.decimal.specs.declared.Form.{Form}
 use Rattle.decimal.specs.declared.Form.TheVariants.{Exact, Rounding}
 use Rattle.decimal.specs.declared.Decimal.{Decimal}
-use Rattle.decimal.specs.declared.Value.{Value}
-use Rattle.decimal.specs.declared.Value.TheVariants.{Known, Refused}
 use Rattle.text.specs.Every.{OneOf}
 use Rattle.text.specs.Run.{blanks}
 use Rattle.text.specs.Answer.{Ans, To, Miss, Hard, ◌then◌, ◌else◌}
-use Rattle.text.specs.Refusals.{deep_number}
+use Rattle.text.specs.Refusals.{too_deep}
 use Rattle.amount.specs.Details.{zero_value}
 use Rattle.amount.specs.Literal.{literal_as, is_number, unsigned, literal}
 use Rattle.amount.specs.Expression.{groups, Arithmetic, negated_value, operated, combined, is_plus, is_times, goes_on, chain, atom, products, sums, negation, in_group, closed, group, within, expression_in, expression}
@@ -30,8 +31,8 @@ abbrev pub value_numbers : List ℕ
 value_numbers = 6 ∷ 7 ∷ 8 ∷ []
 
 abbrev Fine : Value → Type 0
-Fine (Known d) = d.size ≤ limit
-Fine (Refused n) = OneOf value_numbers n
+Fine (Ok d) = d.size ≤ limit
+Fine (Err n) = OneOf value_numbers (number_of n)
 
 pub record Small (v : Value) : Type 0 where
   pub holds : Fine v
@@ -39,20 +40,20 @@ pub record Small (v : Value) : Type 0 where
 pub zero_small : Small zero_value
 zero_small = record { holds = omega arith }
 
-too_large : Small (Refused 6)
+too_large : Small (Err Fault.TooLarge)
 too_large = record { holds = inl refl }
 
-not_exact : Small (Refused 7)
+not_exact : Small (Err Fault.TooFine)
 not_exact = record { holds = inr (inl refl) }
 
-by_zero : Small (Refused 8)
+by_zero : Small (Err Fault.ZeroDivisor)
 by_zero = record { holds = inr (inr (inl refl)) }
 
 cond_small : (b : Bool) (v w : Value) → Small v → Small w → Small (cond b v w)
 cond_small true v w p q = p
 cond_small false v w p q = q
 
-made_small : (m : Bool) (n : ℕ) → n ≤ limit → Small (Known (decimal_of m n))
+made_small : (m : Bool) (n : ℕ) → n ≤ limit → Small (Ok (decimal_of m n))
 unfolding decimal_of
 made_small m n h = record { holds = h }
 
@@ -60,9 +61,9 @@ exact_small : (m : Bool) (n d : ℕ) → Small (exact m n d)
 unfolding exact
 exact_small m n d = on (ltb (limit * d) n) refl
   where
-    on : (b : Bool) → ltb (limit * d) n ≡ b → Small (cond b (Refused 6) (cond (eqb (n % d) 0) (Known (decimal_of m (n / d))) (Refused 7)))
+    on : (b : Bool) → ltb (limit * d) n ≡ b → Small (cond b (Err Fault.TooLarge) (cond (eqb (n % d) 0) (Ok (decimal_of m (n / d))) (Err Fault.TooFine)))
     on true e = too_large
-    on false e = cond_small (eqb (n % d) 0) _ (Refused 7) (made_small m (n / d) (div-le_of_le-mul d (rw (mul_comm d limit) (ltb-false (limit * d) n e)))) not_exact
+    on false e = cond_small (eqb (n % d) 0) _ (Err Fault.TooFine) (made_small m (n / d) (div-le_of_le-mul d (rw (mul_comm d limit) (ltb-false (limit * d) n e)))) not_exact
 
 exactly_small : (z : ℤ) (d : ℕ) → Small (exactly z d)
 unfolding exactly
@@ -70,11 +71,11 @@ exactly_small z d = exact_small _ _ d
 
 negated_small : (v : Value) → Small v → Small (negated_value v)
 unfolding negated_value negated
-negated_small (Known a) h = exactly_small _ 1
-negated_small (Refused n) h = h
+negated_small (Ok a) h = exactly_small _ 1
+negated_small (Err n) h = h
 
 operands_small : (a b : Decimal) (v : Value) → Small v → Small (operands a b v)
-operands_small a b v h = cond_small (ltb limit a.size || ltb limit b.size) (Refused 6) v too_large h
+operands_small a b v h = cond_small (ltb limit a.size || ltb limit b.size) (Err Fault.TooLarge) v too_large h
 
 sum_small : (a b : Decimal) → Small (sum a b)
 unfolding sum
@@ -96,7 +97,7 @@ product_small form a b = operands_small a b _ (value_small form (whole_of a *ℤ
 quotient_small : (form : Form) (a b : Decimal) → Small (quotient form a b)
 unfolding quotient
 quotient_small form a b =
-    operands_small a b _ (cond_small (eqb b.size 0) (Refused 8) _ by_zero (value_small form (whole_of a *ℤ sized b.minus 1000000) b.size))
+    operands_small a b _ (cond_small (eqb b.size 0) (Err Fault.ZeroDivisor) _ by_zero (value_small form (whole_of a *ℤ sized b.minus 1000000) b.size))
 
 operated_small : (form : Form) (op : ℕ) (a b : Decimal) → Small (operated form op a b)
 unfolding operated
@@ -109,16 +110,16 @@ Keeps calc = (op : ℕ) (v w : Value) → Small v → Small w → Small (calc op
 
 combined_small : (form : Form) → Keeps (combined form)
 unfolding combined
-combined_small form op (Refused n) w p q = p
-combined_small form op (Known a) (Refused n) p q = q
-combined_small form op (Known a) (Known b) p q = operated_small form op a b
+combined_small form op (Err n) w p q = p
+combined_small form op (Ok a) (Err n) p q = q
+combined_small form op (Ok a) (Ok b) p q = operated_small form op a b
 
 -- ---- readers
 
 abbrev Fines : Ans Value → Type 0
 Fines (To e v) = Small v
 Fines Miss = Unit {0}
-Fines (Hard k p) = k ≡ deep_number
+Fines (Hard k p) = k ≡ too_deep
 
 pub record Smalls (a : Ans Value) : Type 0 where
   pub holds : Fines a
@@ -129,7 +130,7 @@ to_small e v h = record { holds = h }
 no_small : Smalls Miss
 no_small = record { holds = tt }
 
-hard_small : (p : ℕ) → Smalls (Hard deep_number p)
+hard_small : (p : ℕ) → Smalls (Hard too_deep p)
 hard_small p = record { holds = refl }
 
 if_small : (b : Bool) (x y : Ans Value) → Smalls x → Smalls y → Smalls (cond b x y)
@@ -183,7 +184,7 @@ module _ (calc : Arithmetic) (keeps : Keeps calc) where
 
   group_small : (n : ℕ) (s : List ℕ) (at : ℕ) → Smalls (group calc n s at)
   unfolding group
-  group_small zero s at = if_small (eqb (get_or s at 0) 40) (Hard deep_number at) Miss (hard_small at) no_small
+  group_small zero s at = if_small (eqb (get_or s at 0) 40) (Hard too_deep at) Miss (hard_small at) no_small
   group_small (suc n) s at =
       if_small (eqb (get_or s at 0) 40) _ Miss
       (then_small _ _ (in_group_small (group calc n s) s (λ i. group_small n s i) (blanks s (at + 1))) (λ e v p. closed_small s e v p)) no_small

@@ -1,8 +1,8 @@
 -- M-106, what the exact and the rounding form share. `proofs/FormsAgree.antt` shows it of every expression.
+use Rattle.decimal.specs.Faults.{Value}
 use Rattle.std.specs.Prelude.{ℕ, ◌≡◌, List}
 use Rattle.decimal.specs.Exact.{Knows}
 use Rattle.decimal.specs.declared.Form.TheVariants.{Exact, Rounding}
-use Rattle.decimal.specs.declared.Value.{Value}
 use Rattle.text.specs.Answer.{Ans, To, Miss, Hard}
 use Rattle.amount.specs.Expression.{expression_in}
 

@@ -2,7 +2,7 @@
 use Rattle.std.specs.Prelude.{ℕ, List, [], ◌∷◌}
 use Rattle.text.specs.Answer.{To, ◌then◌, ◌and◌, must}
 use Rattle.text.specs.Leaves.{gap, hard_gap, currency}
-use Rattle.text.specs.Refusals.{required_number}
+use Rattle.text.specs.Refusals.{missing}
 use Rattle.amount.specs.Kinds.{amount_kind, currency_kind}
 use Rattle.amount.specs.Details.{Rows, span, valued}
 use Rattle.amount.specs.Expression.{expression}
@@ -12,14 +12,14 @@ unfoldable pub amount : ℕ → List ℕ → ℕ → Rows
 amount k s at = expression s at then λ e v. gap s e and λ c. currency s c and λ d. To d (valued k at e c d v ∷ [])
 
 unfoldable pub hard_currency : List ℕ → ℕ → Rows
-hard_currency s at = must required_number at (currency s at) and λ e. To e (span currency_kind at e ∷ [])
+hard_currency s at = must missing at (currency s at) and λ e. To e (span currency_kind at e ∷ [])
 
 -- an amount each part of which is required
 unfoldable pub hard_amount : ℕ → List ℕ → ℕ → Rows
 hard_amount k s at =
-    must required_number at (expression s at) then λ e v. hard_gap required_number s e and λ c.
-    must required_number c (currency s c) and λ d. To d (valued k at e c d v ∷ [])
+    must missing at (expression s at) then λ e v. hard_gap missing s e and λ c.
+    must missing c (currency s c) and λ d. To d (valued k at e c d v ∷ [])
 
 -- Price: currency, gap, amount.
 unfoldable pub price_of : List ℕ → ℕ → Rows
-price_of s at = hard_currency s at and λ e. hard_gap required_number s e and λ g. hard_amount amount_kind s g
+price_of s at = hard_currency s at and λ e. hard_gap missing s e and λ g. hard_amount amount_kind s g

@@ -1,7 +1,6 @@
 -- Detail rows while an entry is read: places from the entry's start, no line, and the value or its refusal.
-use Rattle.std.specs.Prelude.{ℕ, ◌+◌, ◌-◌, false, List, [], ◌∷◌}
-use Rattle.decimal.specs.declared.Value.{Value}
-use Rattle.decimal.specs.declared.Value.TheVariants.{Known}
+use Rattle.decimal.specs.Faults.{Value}
+use Rattle.std.specs.Prelude.{ℕ, ◌+◌, ◌-◌, false, List, [], ◌∷◌, Ok}
 use Rattle.text.specs.Answer.{Ans, To, ◌and◌}
 use Rattle.text.specs.Leaves.{string}
 use Rattle.amount.specs.declared.detail.Detail.{Detail}
@@ -11,7 +10,7 @@ abbrev pub Rows : Type 0
 Rows = Ans (List Detail)
 
 abbrev pub zero_value : Value
-zero_value = Known (record { minus = false; size = 0 })
+zero_value = Ok (record { minus = false; size = 0 })
 
 -- a row of a kind that spans a text
 abbrev pub span : ℕ → ℕ → ℕ → Detail

@@ -1,10 +1,11 @@
 -- Document 01's edges of expressions, and the examples of the decided points 4, 5, 6, 8 and 9: one list,
 -- under one statement in `proofs/Examples.antt`, by computation.
-use Rattle.std.specs.Prelude.{ℕ, true, false, List, [], ◌∷◌, ◌++◌, replicate}
+use Rattle.text.specs.Refusals.{too_deep}
+use Rattle.decimal.specs.declared.Fault.{Fault}
+use Rattle.decimal.specs.Faults.{Value}
+use Rattle.std.specs.Prelude.{ℕ, true, false, List, [], ◌∷◌, ◌++◌, replicate, Err, Ok}
 use Prim.Native.Char.{code}
 use Prim.Native.String.{String}
-use Rattle.decimal.specs.declared.Value.{Value}
-use Rattle.decimal.specs.declared.Value.TheVariants.{Known, Refused}
 use Rattle.text.specs.Bytes.{bytes}
 use Rattle.text.specs.Answer.{Ans, To, Miss, Hard}
 
@@ -14,13 +15,13 @@ Example = List ℕ × Ans Value
 
 -- millionths, and the same below zero
 abbrev is : String → ℕ → ℕ → Example
-is s e n = (bytes s, To e (Known (record { minus = false; size = n })))
+is s e n = (bytes s, To e (Ok (record { minus = false; size = n })))
 
 abbrev less : String → ℕ → ℕ → Example
-less s e n = (bytes s, To e (Known (record { minus = true; size = n })))
+less s e n = (bytes s, To e (Ok (record { minus = true; size = n })))
 
-abbrev refused : String → ℕ → ℕ → Example
-refused s e n = (bytes s, To e (Refused n))
+abbrev refused : String → ℕ → Fault → Example
+refused s e n = (bytes s, To e (Err n))
 
 abbrev misses : String → Example
 misses s = (bytes s, Miss)
@@ -37,14 +38,14 @@ edges =
     ∷ less "- 5" 3 5000000
     ∷ misses "-\t5"
     ∷ is "1,2,.5" 6 12500000
-    ∷ refused "1/3" 3 7
-    ∷ refused "1/0" 3 8
+    ∷ refused "1/3" 3 Fault.TooFine
+    ∷ refused "1/0" 3 Fault.ZeroDivisor
     ∷ is "0.000001" 8 1
-    ∷ refused "0.0000001" 9 7
-    ∷ refused "999999999.999999*1.000001" 25 6
+    ∷ refused "0.0000001" 9 Fault.TooFine
+    ∷ refused "999999999.999999*1.000001" 25 Fault.TooLarge
     ∷ misses ""
-    ∷ (nested "" 32, To 65 (Known (record { minus = false; size = 2000000 })))
-    ∷ (nested "" 33, Hard 3 32)
+    ∷ (nested "" 32, To 65 (Ok (record { minus = false; size = 2000000 })))
+    ∷ (nested "" 33, Hard too_deep 32)
     ∷ []
 
 -- point 4: leading blanks
@@ -76,18 +77,18 @@ literals =
 abbrev orders : List Example
 orders =
     less "-(2) + 1" 4 2000000
-    ∷ refused "0/0" 3 8
-    ∷ refused "9999999999/0" 12 6
-    ∷ refused "0.0000001*9999999999" 20 7
-    ∷ refused "1/0+9999999999" 14 8
+    ∷ refused "0/0" 3 Fault.ZeroDivisor
+    ∷ refused "9999999999/0" 12 Fault.TooLarge
+    ∷ refused "0.0000001*9999999999" 20 Fault.TooFine
+    ∷ refused "1/0+9999999999" 14 Fault.ZeroDivisor
     ∷ []
 
 -- point 9: refusal 3 counts in a reading that would be dropped, and a negation's group counts
 abbrev depths : List Example
 depths =
-    (nested "1+" 33, Hard 3 34)
-    ∷ (nested "-" 32, To 66 (Known (record { minus = true; size = 2000000 })))
-    ∷ (nested "-" 33, Hard 3 33)
+    (nested "1+" 33, Hard too_deep 34)
+    ∷ (nested "-" 32, To 66 (Ok (record { minus = true; size = 2000000 })))
+    ∷ (nested "-" 33, Hard too_deep 33)
     ∷ []
 
 unfoldable pub examples : List Example

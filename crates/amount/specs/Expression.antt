@@ -1,17 +1,16 @@
 -- Rule 8. Expression: `-`, blanks, group (a negation, ending there), else a sum of products of atoms, left to right,
 -- blanks around operators. Atom: literal or group. Group: `(`, blanks, expression, blanks, `)`. An expression may hold
 -- a group and a group holds an expression. A reading gives its end with its value or the value's refusal.
-use Rattle.std.specs.Prelude.{ℕ, zero, suc, ◌+◌, Bool, cond, ◌||◌, List, eqb, get_or, length}
+use Rattle.decimal.specs.Faults.{Value}
+use Rattle.std.specs.Prelude.{ℕ, zero, suc, ◌+◌, Bool, cond, ◌||◌, List, eqb, get_or, length, Err, Ok}
 use Prim.Native.Char.{code}
 use Rattle.decimal.specs.Exact.{negated, sum, difference, product, quotient}
 use Rattle.decimal.specs.declared.Form.{Form}
 use Rattle.decimal.specs.declared.Form.TheVariants.{Rounding}
 use Rattle.decimal.specs.declared.Decimal.{Decimal}
-use Rattle.decimal.specs.declared.Value.{Value}
-use Rattle.decimal.specs.declared.Value.TheVariants.{Known, Refused}
 use Rattle.text.specs.Run.{blanks}
 use Rattle.text.specs.Answer.{Ans, To, Miss, Hard, ◌then◌, ◌else◌}
-use Rattle.text.specs.Refusals.{deep_number}
+use Rattle.text.specs.Refusals.{too_deep}
 use Rattle.amount.specs.Literal.{literal}
 
 -- how many groups may be open around a place: refusal 3 where one opens inside so many
@@ -21,8 +20,8 @@ groups = 32
 -- ---- values: a refusal is carried; the left operand's goes first, then the right one's, then the operation's own
 
 unfoldable pub negated_value : Value → Value
-negated_value (Known a) = negated a
-negated_value (Refused n) = Refused n
+negated_value (Ok a) = negated a
+negated_value (Err n) = Err n
 
 -- by the operator's byte: + - * /
 unfoldable pub operated : Form → ℕ → Decimal → Decimal → Value
@@ -34,9 +33,9 @@ abbrev pub Arithmetic : Type 0
 Arithmetic = ℕ → Value → Value → Value
 
 unfoldable pub combined : Form → Arithmetic
-combined form op (Refused n) w = Refused n
-combined form op (Known a) (Refused n) = Refused n
-combined form op (Known a) (Known b) = operated form op a b
+combined form op (Err n) w = Err n
+combined form op (Ok a) (Err n) = Err n
+combined form op (Ok a) (Ok b) = operated form op a b
 
 -- ---- the rule, in an arithmetic calc, which no place depends on (`Agreement.antt`); g reads a group at a place
 
@@ -88,7 +87,7 @@ closed s e v = cond (eqb (get_or s (blanks s e) 0) (code ")")) (To (blanks s e +
 
 -- a group where n more may open: refusal 3 at its `(` where none may
 unfoldable pub group : Arithmetic → ℕ → List ℕ → ℕ → Ans Value
-group calc zero s at = cond (eqb (get_or s at 0) (code "(")) (Hard deep_number at) Miss
+group calc zero s at = cond (eqb (get_or s at 0) (code "(")) (Hard too_deep at) Miss
 group calc (suc n) s at =
     let inner = in_group calc (group calc n s) s (blanks s (at + 1)) then closed s in
     cond (eqb (get_or s at 0) (code "(")) inner Miss

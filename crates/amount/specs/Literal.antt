@@ -1,9 +1,9 @@
 -- Rule 9. Literal: optional `-`, blanks, longest run of digits, `.`, `,`. With spaces and commas dropped it must be an
 -- optional `-`, digits, at most one `.`, at least one digit. A tab stays, so it misses: of blanks only spaces may stand.
+use Rattle.decimal.specs.Faults.{Value}
 use Rattle.std.specs.Prelude.{ℕ, suc, ◌+◌, ◌-◌, ◌*◌, ◌^◌, Bool, true, false, cond, ◌&&◌, ◌||◌, List, [], ◌∷◌, leb, eqb, get_or}
 use Prim.Native.Char.{code}
 use Rattle.decimal.specs.Exact.{exact}
-use Rattle.decimal.specs.declared.Value.{Value}
 use Rattle.text.specs.Bytes.{is_digit, is_space, between}
 use Rattle.text.specs.Run.{run_to}
 use Rattle.text.specs.Answer.{Ans, To, Miss}

@@ -3,115 +3,62 @@ ghost use Rattle.std.specs.Prelude.{◌≡◌, [], ◌∷◌};
 ghost use Rattle.amount.specs.Amounts.{amount, hard_amount, price_of};
 ghost use Rattle.amount.specs.steps.Answers.{one_of, pair_of, amount_end, priced_from};
 
-use crate::detail::{Detail, One};
-use crate::expression::Answer;
-use crate::{expression, kind};
-use decimal::{Decimal, Value};
-use text::{Read, currency, line, refusal};
-
-// The content of a price directive: where it ends, the row of its currency and that of its amount; or a refusal with
-// its place.
-#[derive(Clone, Copy)]
-pub enum Priced {
-    Read(usize, Detail, Detail),
-    Hard(usize, usize),
-}
+use crate::detail::Detail;
+use crate::{detail, expression, kind};
+use decimal::Value;
+use text::stop::{Cause, Reading, Stop};
+use text::{currency, line, stop};
 
 // After the expression of a required amount, which spans at to e: gap, currency.
-fn required_end(s: &[u8], kind: usize, at: usize, e: usize, v: Value) -> One
+fn required_end(s: &[u8], kind: usize, at: usize, e: usize, v: Value) -> Reading<Detail>
     ensures { result ≡ one_of (amount_end kind s.now at e v) }
 {
-    let g = line::gap(s, e);
-    match g {
-        Read::To(c) => {
-            let u = currency::currency(s, c);
-            match u {
-                Read::To(d) => One::Read(
-                    d,
-                    Detail {
-                        kind,
-                        start: at,
-                        end: e,
-                        p: c,
-                        q: d,
-                        value: v,
-                    },
-                ),
-                Read::Miss => One::Hard(refusal::REQUIRED, c),
-            }
-        }
-        Read::Miss => One::Hard(refusal::REQUIRED, e),
-    }
+    let c = line::gap(s, e).ok_or(Stop::Hard(Cause::Missing, e))?;
+    let d = currency::currency(s, c).ok_or(Stop::Hard(Cause::Missing, c))?;
+    Ok((
+        d,
+        Detail {
+            kind,
+            start: at,
+            end: e,
+            p: c,
+            q: d,
+            value: v,
+        },
+    ))
 }
 
 // An amount (expression, gap, currency) each part of which is required. Its row is of the kind that the caller names.
-pub fn required_amount(s: &[u8], at: usize, kind: usize) -> One
+pub fn required_amount(s: &[u8], at: usize, kind: usize) -> Reading<Detail>
     ensures { result ≡ one_of (hard_amount kind s.now at) }
 {
-    let x = expression::expression_at(s, at);
-    match x {
-        Answer::Read(e, v) => required_end(s, kind, at, e, v),
-        Answer::Miss => One::Hard(refusal::REQUIRED, at),
-        Answer::Deep(p) => One::Hard(refusal::DEEP, p),
-    }
+    let (e, v) = stop::required(expression::expression_at(s, at), at)?;
+    required_end(s, kind, at, e, v)
 }
 
 // An amount: the same, but for a missing part, which is a plain miss.
-pub fn amount_at(s: &[u8], at: usize, kind: usize) -> One
+pub fn amount_at(s: &[u8], at: usize, kind: usize) -> Reading<Detail>
     ensures { result ≡ one_of (amount kind s.now at) }
 {
-    let a = required_amount(s, at, kind);
-    match a {
-        One::Read(e, d) => One::Read(e, d),
-        One::Miss => One::Miss,
-        One::Hard(k, p) => {
-            if k == refusal::REQUIRED {
-                One::Miss
-            } else {
-                One::Hard(k, p)
-            }
-        }
+    match required_amount(s, at, kind) {
+        Err(Stop::Hard(Cause::Missing, _)) => Err(Stop::Miss),
+        read => read,
     }
 }
 
-// After a price's currency, which spans at to e: gap, amount.
-fn priced_from(s: &[u8], at: usize, e: usize) -> Priced
+// After a price's currency, which spans at to e: gap, amount. The rows are the currency's and the amount's.
+fn priced_from(s: &[u8], at: usize, e: usize) -> Reading<(Detail, Detail)>
     ensures { result ≡ pair_of (priced_from s.now at e) }
 {
-    let g = line::gap(s, e);
-    match g {
-        Read::To(j) => {
-            let a = required_amount(s, j, kind::AMOUNT);
-            match a {
-                One::Read(f, d) => {
-                    let unit = Detail {
-                        kind: kind::CURRENCY,
-                        start: at,
-                        end: e,
-                        p: 0,
-                        q: 0,
-                        value: Value::Known(Decimal {
-                            minus: false,
-                            size: 0,
-                        }),
-                    };
-                    Priced::Read(f, unit, d)
-                }
-                One::Miss => Priced::Hard(refusal::REQUIRED, j),
-                One::Hard(k, p) => Priced::Hard(k, p),
-            }
-        }
-        Read::Miss => Priced::Hard(refusal::REQUIRED, e),
-    }
+    let j = line::gap(s, e).ok_or(Stop::Hard(Cause::Missing, e))?;
+    let (f, d) = required_amount(s, j, kind::AMOUNT)?;
+    Ok((f, (detail::named(kind::CURRENCY, at, e, 0, 0), d)))
 }
 
 // Price: currency, gap, amount, each required.
-pub fn price_at(s: &[u8], at: usize) -> Priced
+pub fn price_at(s: &[u8], at: usize) -> Reading<(Detail, Detail)>
     ensures { result ≡ pair_of (price_of s.now at) }
 {
-    let u = currency::currency(s, at);
-    match u {
-        Read::To(e) => priced_from(s, at, e),
-        Read::Miss => Priced::Hard(refusal::REQUIRED, at),
-    }
+    let e = currency::currency(s, at).ok_or(Stop::Hard(Cause::Missing, at))?;
+    priced_from(s, at, e)
 }

@@ -8,16 +8,8 @@ ghost use Rattle.amount.specs.steps.Answers.{answer_of, operator_of, operand_of,
 use crate::literal;
 use decimal::{Decimal, Form, Value};
 use text::run::Class;
+use text::stop::{Cause, Reading, Stop};
 use text::{bytes, run};
-
-#[derive(Clone, Copy)]
-pub enum Answer {
-    // Where it ends, with the value or its refusal.
-    Read(usize, Value),
-    Miss,
-    // A group opens inside as many as may be open: its place.
-    Deep(usize),
-}
 
 // How many groups may be open around a place (refusal 3).
 pub const GROUPS: usize = 32;
@@ -25,10 +17,7 @@ pub const GROUPS: usize = 32;
 pub fn negated(v: Value) -> Value
     ensures { result ≡ negated_value v }
 {
-    match v {
-        Value::Known(a) => decimal::neg(a),
-        Value::Refused(n) => Value::Refused(n),
-    }
+    decimal::neg(v?)
 }
 
 fn operated_by(op: u8, a: Decimal, b: Decimal, form: Form) -> Value
@@ -50,13 +39,9 @@ fn operated_by(op: u8, a: Decimal, b: Decimal, form: Form) -> Value
 pub fn combine(op: u8, v: Value, w: Value, form: Form) -> Value
     ensures { result ≡ combined form op v w }
 {
-    match v {
-        Value::Known(a) => match w {
-            Value::Known(b) => operated_by(op, a, b, form),
-            Value::Refused(n) => Value::Refused(n),
-        },
-        Value::Refused(n) => Value::Refused(n),
-    }
+    let a = v?;
+    let b = w?;
+    operated_by(op, a, b, form)
 }
 
 // Whether a byte is `*` or `/` where `times`, else whether it is `+` or `-`.
@@ -70,63 +55,53 @@ pub fn is_operator(times: bool, b: u8) -> bool
 }
 
 // A group's expression, then blanks and `)`.
-fn closing(s: &[u8], inner: Answer) -> Answer
+fn closing(s: &[u8], inner: Reading<Value>) -> Reading<Value>
     ensures { result ≡ closed_answer s.now inner }
 {
-    match inner {
-        Answer::Read(e, v) => {
-            let end = run::run(s, e, Class::Blank);
-            if bytes::peek(s, end) == b')' {
-                Answer::Read(end + 1, v)
-            } else {
-                Answer::Miss
-            }
-        }
-        Answer::Miss => Answer::Miss,
-        Answer::Deep(p) => Answer::Deep(p),
+    let (e, v) = inner?;
+    let end = run::run(s, e, Class::Blank);
+    if bytes::peek(s, end) == b')' {
+        Ok((end + 1, v))
+    } else {
+        Err(Stop::Miss)
     }
 }
 
-fn negating(inner: Answer) -> Answer
+fn negating(inner: Reading<Value>) -> Reading<Value>
     ensures { result ≡ negated_answer inner }
 {
-    match inner {
-        Answer::Read(e, v) => Answer::Read(e, negated(v)),
-        Answer::Miss => Answer::Miss,
-        Answer::Deep(p) => Answer::Deep(p),
-    }
+    let (e, v) = inner?;
+    Ok((e, negated(v)))
 }
 
 // `left` more groups may open one in another.
 #[cycle(expression)]
-fn group_at(s: &[u8], at: usize, left: usize, form: Form) -> Answer
+fn group_at(s: &[u8], at: usize, left: usize, form: Form) -> Reading<Value>
     ensures { result ≡ answer_of (group (combined form) left s.now at) }
 {
     if bytes::peek(s, at) == b'(' {
         if left == 0 {
-            return Answer::Deep(at);
+            return Err(Stop::Hard(Cause::TooDeep, at));
         }
         let inner = within_at(s, run::run(s, at + 1, Class::Blank), left - 1, form);
         return closing(s, inner);
     }
-    Answer::Miss
+    Err(Stop::Miss)
 }
 
 #[cycle(expression)]
-fn atom_at(s: &[u8], at: usize, left: usize, form: Form) -> Answer
+fn atom_at(s: &[u8], at: usize, left: usize, form: Form) -> Reading<Value>
     ensures { result ≡ answer_of (atom (group (combined form) left s.now) s.now at) }
 {
-    let number = literal::literal_at(s, at);
-    match number {
-        Answer::Read(e, v) => Answer::Read(e, v),
-        Answer::Miss => group_at(s, at, left, form),
-        Answer::Deep(p) => Answer::Deep(p),
+    match literal::literal_at(s, at) {
+        Err(Stop::Miss) => group_at(s, at, left, form),
+        number => number,
     }
 }
 
 // What `*` and `/` join where `times`, else what `+` and `-` join.
 #[cycle(expression)]
-fn operand_at(s: &[u8], at: usize, left: usize, times: bool, form: Form) -> Answer
+fn operand_at(s: &[u8], at: usize, left: usize, times: bool, form: Form) -> Reading<Value>
     ensures { result ≡ answer_of (operand_of times (combined form) (group (combined form) left s.now) s.now at) }
 {
     if times {
@@ -137,82 +112,72 @@ fn operand_at(s: &[u8], at: usize, left: usize, times: bool, form: Form) -> Answ
 
 // Operators of one class with their operands, from a value on.
 #[cycle(expression)]
-fn chain_from(s: &[u8], from: usize, first: Value, left: usize, times: bool, form: Form) -> Answer
+fn chain_from(
+    s: &[u8],
+    from: usize,
+    first: Value,
+    left: usize,
+    times: bool,
+    form: Form,
+) -> Reading<Value>
     ensures { result ≡ answer_of (goes_on (combined form) (operator_of times) (operand_of times (combined form) (group (combined form) left s.now) s.now) s.now (length s.now) first from) }
 {
     let mut end = from;
     let mut value = first;
-    let mut turns = s.len();
-    while 0 < turns {
+    for _ in 0..s.len() {
         let i = run::run(s, end, Class::Blank);
         let op = bytes::peek(s, i);
         if is_operator(times, op) {
-            let next = operand_at(s, run::run(s, i + 1, Class::Blank), left, times, form);
-            match next {
-                Answer::Read(f, w) => {
+            match operand_at(s, run::run(s, i + 1, Class::Blank), left, times, form) {
+                Ok((f, w)) => {
                     value = combine(op, value, w, form);
                     end = f;
                 }
-                Answer::Miss => {
-                    return Answer::Read(end, value);
-                }
-                Answer::Deep(p) => {
-                    return Answer::Deep(p);
-                }
+                Err(Stop::Miss) => return Ok((end, value)),
+                Err(hard) => return Err(hard),
             }
         } else {
-            return Answer::Read(end, value);
+            return Ok((end, value));
         }
-        turns -= 1;
     }
-    Answer::Read(end, value)
+    Ok((end, value))
 }
 
 #[cycle(expression)]
-fn product_at(s: &[u8], at: usize, left: usize, form: Form) -> Answer
+fn product_at(s: &[u8], at: usize, left: usize, form: Form) -> Reading<Value>
     ensures { result ≡ answer_of (products (combined form) (group (combined form) left s.now) s.now at) }
 {
-    let first = atom_at(s, at, left, form);
-    match first {
-        Answer::Read(e, v) => chain_from(s, e, v, left, true, form),
-        Answer::Miss => Answer::Miss,
-        Answer::Deep(p) => Answer::Deep(p),
-    }
+    let (e, v) = atom_at(s, at, left, form)?;
+    chain_from(s, e, v, left, true, form)
 }
 
 #[cycle(expression)]
-fn sum_at(s: &[u8], at: usize, left: usize, form: Form) -> Answer
+fn sum_at(s: &[u8], at: usize, left: usize, form: Form) -> Reading<Value>
     ensures { result ≡ answer_of (sums (combined form) (group (combined form) left s.now) s.now at) }
 {
-    let first = product_at(s, at, left, form);
-    match first {
-        Answer::Read(e, v) => chain_from(s, e, v, left, false, form),
-        Answer::Miss => Answer::Miss,
-        Answer::Deep(p) => Answer::Deep(p),
-    }
+    let (e, v) = product_at(s, at, left, form)?;
+    chain_from(s, e, v, left, false, form)
 }
 
 #[cycle(expression)]
-fn negation_at(s: &[u8], at: usize, left: usize, form: Form) -> Answer
+fn negation_at(s: &[u8], at: usize, left: usize, form: Form) -> Reading<Value>
     ensures { result ≡ answer_of (negation (group (combined form) left s.now) s.now at) }
 {
     if bytes::peek(s, at) == b'-' {
         let inner = group_at(s, run::run(s, at + 1, Class::Blank), left, form);
         return negating(inner);
     }
-    Answer::Miss
+    Err(Stop::Miss)
 }
 
 // An expression, where `left` groups may open one in another.
 #[cycle(expression)]
-fn within_at(s: &[u8], at: usize, left: usize, form: Form) -> Answer
+fn within_at(s: &[u8], at: usize, left: usize, form: Form) -> Reading<Value>
     ensures { result ≡ answer_of (within (combined form) left s.now at) }
 {
-    let first = negation_at(s, at, left, form);
-    match first {
-        Answer::Read(e, v) => Answer::Read(e, v),
-        Answer::Miss => sum_at(s, at, left, form),
-        Answer::Deep(p) => Answer::Deep(p),
+    match negation_at(s, at, left, form) {
+        Err(Stop::Miss) => sum_at(s, at, left, form),
+        negation => negation,
     }
 }
 
@@ -225,25 +190,20 @@ fn operator_follows(s: &[u8], at: usize) -> bool
 }
 
 // Rule 8 in the form of plain and recovering reading. A literal that no operator follows is all of it.
-pub fn expression_at(s: &[u8], at: usize) -> Answer
+pub fn expression_at(s: &[u8], at: usize) -> Reading<Value>
     ensures { result ≡ answer_of (expression s.now at) }
 {
     let number = literal::literal_at(s, at);
-    match number {
-        Answer::Read(e, _) => {
-            if operator_follows(s, e) {
-                within_at(s, at, GROUPS, Form::Rounding)
-            } else {
-                number
-            }
+    if let Ok((e, _)) = number {
+        if !operator_follows(s, e) {
+            return number;
         }
-        Answer::Miss => within_at(s, at, GROUPS, Form::Rounding),
-        Answer::Deep(p) => Answer::Deep(p),
     }
+    within_at(s, at, GROUPS, Form::Rounding)
 }
 
 // Rule 8 in a form.
-pub fn expression_in(s: &[u8], at: usize, form: Form) -> Answer
+pub fn expression_in(s: &[u8], at: usize, form: Form) -> Reading<Value>
     ensures { result ≡ answer_of (expression_in form s.now at) }
 {
     match form {

@@ -1,4 +1,5 @@
-// The kinds of rows, as document 01 lists them: entries, then details.
+// The kinds of rows, as document 01 lists them: entries, then details. Numbers, for a lent row may hold any: an enum
+// would stand beside these, and not in their place.
 pub const BLANK: usize = 1;
 
 pub const OPTION: usize = 2;

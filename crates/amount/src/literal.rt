@@ -4,9 +4,9 @@ ghost use Rattle.amount.specs.Literal.{unsigned, literal};
 ghost use Rattle.amount.specs.steps.Kept.{whole_from, fraction_from, factor, kept_value, whole_literal, point_literal, whole_limit, kept_limit};
 ghost use Rattle.amount.specs.steps.Answers.{answer_of};
 
-use crate::expression::Answer;
-use decimal::Value;
+use decimal::{Fault, Value};
 use text::run::Class;
+use text::stop::{Reading, Stop};
 use text::{bytes, run};
 
 // The digits before a point: where they end, their number, which stops growing once it is too large, and whether there
@@ -29,39 +29,31 @@ struct Fraction {
     tail: bool,
 }
 
-fn wide(b: u8) -> u64
-    ensures { result ≡ b }
-{
-    b as u64
-}
-
 fn whole_part(s: &[u8], at: usize) -> Whole
     ensures value { result ≡ whole_from 0 false (drop at s.now) at }
     ensures size_lt_whole_limit { result.size < whole_limit }
 {
-    let mut i = at;
     let mut size: u64 = 0;
     let mut digits = false;
-    while i < s.len() {
+    for i in at..s.len() {
         let b = s[i];
-        if bytes::is_digit(b) {
-            digits = true;
-            if size < 1_000_000_000 {
-                size = size * 10 + wide(b - b'0');
+        if !bytes::is_digit(b) {
+            if b == b',' {
+                continue;
             }
-            i += 1;
-        } else if b == b',' {
-            i += 1;
-        } else {
             return Whole {
                 end: i,
                 size,
                 digits,
             };
         }
+        digits = true;
+        if size < 1_000_000_000 {
+            size = size * 10 + u64::from(b - b'0');
+        }
     }
     Whole {
-        end: i,
+        end: at.max(s.len()),
         size,
         digits,
     }
@@ -74,25 +66,16 @@ fn fraction_part(s: &[u8], at: usize, before: u64, any: bool) -> Fraction
     ensures value { result ≡ fraction_from before 0 any false (drop at s.now) at }
     ensures places_bound { result.size * factor result.places ≤ kept_limit }
 {
-    let mut i = at;
     let mut size = before;
     let mut places: u64 = 0;
     let mut digits = any;
     let mut tail = false;
-    while i < s.len() {
+    for i in at..s.len() {
         let b = s[i];
-        if bytes::is_digit(b) {
-            digits = true;
-            if places < 6 {
-                size = size * 10 + wide(b - b'0');
-                places += 1;
-            } else if b != b'0' {
-                tail = true;
+        if !bytes::is_digit(b) {
+            if b == b',' {
+                continue;
             }
-            i += 1;
-        } else if b == b',' {
-            i += 1;
-        } else {
             return Fraction {
                 end: i,
                 size,
@@ -101,9 +84,16 @@ fn fraction_part(s: &[u8], at: usize, before: u64, any: bool) -> Fraction
                 tail,
             };
         }
+        digits = true;
+        if places < 6 {
+            size = size * 10 + u64::from(b - b'0');
+            places += 1;
+        } else if b != b'0' {
+            tail = true;
+        }
     }
     Fraction {
-        end: i,
+        end: at.max(s.len()),
         size,
         places,
         digits,
@@ -131,7 +121,7 @@ fn value(minus: bool, whole: u64, size: u64, places: u64, tail: bool) -> Value
     ensures { result ≡ kept_value minus whole size places tail }
 {
     if 1_000_000_000 <= whole {
-        return Value::Refused(6);
+        return Err(Fault::TooLarge);
     }
     let f = power(places);
     if tail {
@@ -142,20 +132,20 @@ fn value(minus: bool, whole: u64, size: u64, places: u64, tail: bool) -> Value
 }
 
 // A literal with no point.
-fn without_point(minus: bool, w: Whole) -> Answer
+fn without_point(minus: bool, w: Whole) -> Reading<Value>
     requires { w.size < whole_limit }
     ensures { result ≡ answer_of (whole_literal minus w) }
 {
     let size = w.size;
     if w.digits {
-        Answer::Read(w.end, value(minus, size, size, 0, false))
+        Ok((w.end, value(minus, size, size, 0, false)))
     } else {
-        Answer::Miss
+        Err(Stop::Miss)
     }
 }
 
 // A literal with a point after its whole part: a second point makes it a miss.
-fn with_point(minus: bool, s: &[u8], w: Whole) -> Answer
+fn with_point(minus: bool, s: &[u8], w: Whole) -> Reading<Value>
     requires { (w.size < whole_limit) × (w.end < length s.now) }
     ensures { result ≡ answer_of (point_literal minus s.now w) }
 {
@@ -163,17 +153,17 @@ fn with_point(minus: bool, s: &[u8], w: Whole) -> Answer
     let f = fraction_part(s, point + 1, w.size, w.digits);
     let end = f.end;
     if bytes::peek(s, end) == b'.' {
-        return Answer::Miss;
+        return Err(Stop::Miss);
     }
     if f.digits {
-        Answer::Read(end, value(minus, w.size, f.size, f.places, f.tail))
+        Ok((end, value(minus, w.size, f.size, f.places, f.tail)))
     } else {
-        Answer::Miss
+        Err(Stop::Miss)
     }
 }
 
 // A literal whose sign, if any, ends at a place.
-fn unsigned_at(minus: bool, s: &[u8], at: usize) -> Answer
+fn unsigned_at(minus: bool, s: &[u8], at: usize) -> Reading<Value>
     ensures { result ≡ answer_of (unsigned minus s.now at) }
 {
     let w = whole_part(s, run::run(s, at, Class::Space));
@@ -198,7 +188,7 @@ fn sign_end(s: &[u8], at: usize) -> usize
 }
 
 // Rule 9. An expression is its only caller.
-pub fn literal_at(s: &[u8], at: usize) -> Answer
+pub fn literal_at(s: &[u8], at: usize) -> Reading<Value>
     ensures { result ≡ answer_of (literal s.now at) }
 {
     let minus = bytes::peek(s, at) == b'-';

@@ -1,4 +1,7 @@
 -- What is written reads back.
+use Rattle.text.specs.declared.stop.Refused.{Refused}
+use Rattle.text.specs.Refusals.{refused_with}
+use Rattle.std.specs.Prelude.{Some, Err, Ok, Result}
 use Prim.Native.Nat.{ℕ, zero, suc, ◌+◌, ◌*◌, ◌-◌, ◌≤◌, ◌<◌}
 use native.Mathlib.Omega.{arith}
 use mathlib.Core.Path.{◌≡◌, refl, sym, ◌∙◌, ap}
@@ -11,8 +14,7 @@ use lib.Seq.{take_at, drop_at, drop-drop, take-append-le, take-take}
 use Rattle.text.proofs.TestLaws.{absurd_bool}
 use Rattle.row.specs.Field.{field_at, un}
 use Rattle.access.specs.Tables.{row_at}
-use Rattle.access.specs.declared.written.Written.{Written}
-use Rattle.bus.specs.declared.packet.Found.{Found}
+use Rattle.bus.specs.declared.packet.Piece.{Piece}
 use Rattle.bus.specs.Refusals.{not_valid}
 use Rattle.bus.specs.Fields.{field, is_entry, row_tag, row_field, text_place, longest, entry_tag, detail_tag, text_tag, head_width}
 use Rattle.bus.specs.Reading.{field_fault, is_row, row_in, text_in, text_found, found, handed}
@@ -58,7 +60,7 @@ module _ (u rest : List ℕ) (h : width ≤ length u) (tag : ℕ) where
         eq-eqb tag (row_tag (row_of u).kind) e,
       )
 
-  row_found_lem : tag ≡ row_tag (row_of u).kind → found r ≡ cond (is_entry (row_of u).kind) Found.Entry (text_found rest)
+  row_found_lem : tag ≡ row_tag (row_of u).kind → found r ≡ cond (is_entry (row_of u).kind) (Ok (Some Piece.Entry)) (text_found rest)
   unfolding found field_fault
   row_found_lem e =
       rw (
@@ -78,7 +80,7 @@ module _ (u rest : List ℕ) (h : width ≤ length u) (tag : ℕ) where
 -- ---- its text
 
 module _ (c rest : List ℕ) (l : length c ≤ longest) where
-  text_found_lem : text_found (field text_tag c ++ rest) ≡ Found.Detail (length c)
+  text_found_lem : text_found (field text_tag c ++ rest) ≡ Ok (Some (Piece.Detail (length c)))
   unfolding text_found field_fault
   text_found_lem = rw (field_whole text_tag c rest l, field_tag text_tag c rest, field_stated text_tag c rest l)
 
@@ -167,11 +169,11 @@ packet_long s (suc n) u h =
     rw length-append (omega (arith, row_wide s u (omega arith)))
 
 -- what is written is refused by nothing
-accepted : (s t : List ℕ) (n room m : ℕ) → written s n t room ≡ Written.Bytes m → refusing s n t ≡ 0
+accepted : (s t : List ℕ) (n room m : ℕ) → written s n t room ≡ Ok m → refusing s n t ≡ 0
 unfolding written
 accepted s t n room m e = go (eqb (refusing s n t) 0) refl _ e
   where
-    go : (b : Bool) → eqb (refusing s n t) 0 ≡ b → (w : Written) → cond b w (Written.Refusal (refusing s n t) 0) ≡ Written.Bytes m → refusing s n t ≡ 0
+    go : (b : Bool) → eqb (refusing s n t) 0 ≡ b → (w : Result ℕ Refused) → cond b w (Err (refused_with (refusing s n t) 0 0)) ≡ Ok m → refusing s n t ≡ 0
     go true q w e = eqb-true (refusing s n t) 0 q
     go false q w e = absurd (let z : ◌≡◌ {A = ℕ} 0 1 = cc in omega arith)
 

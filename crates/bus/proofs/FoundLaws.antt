@@ -9,11 +9,14 @@ use lib.Dec.{eqb}
 use lib.ListN.{length, get_or, take, drop}
 use Rattle.text.proofs.TestLaws.{and_left}
 use Rattle.row.specs.Field.{field_at}
-use Rattle.bus.specs.declared.packet.Found.{Found}
+use Rattle.std.specs.Prelude.{None, Some, Err, Ok, Result}
+use Rattle.text.specs.declared.stop.Refused.{Refused}
+use Rattle.text.specs.Refusals.{refused_with}
+use Rattle.bus.specs.declared.packet.Piece.{Piece}
 use Rattle.bus.specs.Refusals.{cut_short, wrong_field}
 use Rattle.amount.specs.Kinds.{first_detail}
 use Rattle.bus.specs.Fields.{is_entry, row_tag, stated, whole, row_field, entry_tag, detail_tag, text_tag, head_width}
-use Rattle.bus.specs.Reading.{field_fault, is_row, text_found, found}
+use Rattle.bus.specs.Reading.{Found, field_fault, is_row, text_found, found}
 use Rattle.row.specs.Row.{width}
 use Rattle.text.proofs.Steps.{rest_of}
 use Rattle.bus.proofs.FieldLaws.{whole_in}
@@ -28,27 +31,27 @@ detail_kind kind h = le-ltb kind first_detail h
 
 -- ---- what is wrong with a field
 
-module _ (w d : Bool) where
-  pub fault_cut : w ≡ false → cut_short ≡ field_fault w d
+module _ (w d : Bool) (place : ℕ) where
+  pub fault_cut : (x : Refused) → w ≡ false → x ≡ refused_with cut_short place 0 → Err x ≡ field_fault w d place
   unfolding field_fault
-  fault_cut e = rw e
+  fault_cut x e q = rw (e, q)
 
-  pub fault_wrong : w ≡ true → d ≡ false → wrong_field ≡ field_fault w d
+  pub fault_wrong : (x : Refused) → w ≡ true → d ≡ false → x ≡ refused_with wrong_field place 0 → Err x ≡ field_fault w d place
   unfolding field_fault
-  fault_wrong e f = rw (e, f)
+  fault_wrong x e f q = rw (e, f, q)
 
-  pub fault_none : w ≡ true → d ≡ true → 0 ≡ field_fault w d
+  pub fault_none : w ≡ true → d ≡ true → Ok tt ≡ field_fault w d place
   unfolding field_fault
   fault_none e f = rw (e, f)
 
 pub ruleset fault_laws = (fault_cut, fault_wrong, fault_none)
 
 -- a field without a fault is whole, and what is due
-pub sound : (w d : Bool) → field_fault w d ≡ 0 → (w ≡ true) × (d ≡ true)
+pub sound : (w d : Bool) (place : ℕ) → field_fault w d place ≡ Ok tt → (w ≡ true) × (d ≡ true)
 unfolding field_fault
-sound true true e = (refl, refl)
-sound true false e = absurd (omega arith)
-sound false d e = absurd (omega arith)
+sound true true place e = (refl, refl)
+sound true false place e = cc
+sound false d place e = cc
 
 -- ---- the tag that is due
 
@@ -72,17 +75,18 @@ pub ruleset due_laws = (row_due)
 
 -- ---- a text is due
 
-module _ (r : List ℕ) (tag bad : ℕ) (w : Bool) (et : tag ≡ get_or r 0 0) (ew : w ≡ whole r) (eb : bad ≡ field_fault w (eqb tag text_tag)) where
-  is_bad : field_fault (whole r) (eqb (get_or r 0 0) text_tag) ≡ bad
-  is_bad = rw (← ew, ← et) (sym eb)
+module _ (r : List ℕ) (tag : ℕ) (w : Bool) (x : Result Unit Refused) (et : tag ≡ get_or r 0 0) (ew : w ≡ whole r)
+    (ex : x ≡ field_fault w (eqb tag text_tag) row_field) where
+  is_bad : field_fault (whole r) (eqb (get_or r 0 0) text_tag) row_field ≡ x
+  is_bad = rw (← ew, ← et) (sym ex)
 
-  pub text_there : bad ≡ 0 → (n : ℕ) → n ≡ stated r → Found.Detail n ≡ text_found r
+  pub text_there : x ≡ Ok tt → (n : ℕ) → n ≡ stated r → Ok (Some (Piece.Detail n)) ≡ text_found r
   unfolding text_found
   text_there z n e = rw (is_bad, z, e)
 
-  pub text_bad : (bad ≡ 0 → ⊥) → Found.Bad bad row_field ≡ text_found r
+  pub text_bad : (e : Refused) → x ≡ Err e → Err e ≡ text_found r
   unfolding text_found
-  text_bad z = rw (is_bad, ne_eqb bad 0 z)
+  text_bad e z = rw (is_bad, z)
 
 pub ruleset text_laws = (text_there, text_bad)
 
@@ -92,24 +96,24 @@ pub row_in_lem : (r : List ℕ) → whole r ≡ true → is_row r ≡ true → r
 unfolding is_row
 row_in_lem r e f = omega (arith, whole_in r e, eqb-true (stated r) width (and_left (eqb (stated r) width) (eqb (get_or r 0 0) (row_tag (field_at r head_width 4))) f))
 
-pub found_none : (r : List ℕ) → length r ≡ 0 → Found.End ≡ found r
+pub found_none : (r : List ℕ) → length r ≡ 0 → Ok None ≡ found r
 unfolding found
 found_none r h = rw h
 
-module _ (r : List ℕ) (some : length r ≡ 0 → ⊥) (bad : ℕ) (w d : Bool) (ew : w ≡ whole r) (ed : d ≡ is_row r) (eb : bad ≡ field_fault w d) where
-  is_fault : field_fault (whole r) (is_row r) ≡ bad
-  is_fault = rw (← ew, ← ed) (sym eb)
+module _ (r : List ℕ) (some : length r ≡ 0 → ⊥) (w d : Bool) (x : Result Unit Refused) (ew : w ≡ whole r) (ed : d ≡ is_row r) (ex : x ≡ field_fault w d 0) where
+  is_fault : field_fault (whole r) (is_row r) 0 ≡ x
+  is_fault = rw (← ew, ← ed) (sym ex)
 
-  pub found_bad : (bad ≡ 0 → ⊥) → Found.Bad bad 0 ≡ found r
+  pub found_bad : (e : Refused) → x ≡ Err e → Err e ≡ found r
   unfolding found
-  found_bad z = rw (ne_eqb (length r) 0 some, is_fault, ne_eqb bad 0 z)
+  found_bad e z = rw (ne_eqb (length r) 0 some, is_fault, z)
 
-  module _ (z : bad ≡ 0) where
+  module _ (z : x ≡ Ok tt) where
     pub found_in : row_field ≤ length r
-    found_in = let h = sound w d (sym eb ∙ z) in row_in_lem r (sym ew ∙ h.0) (sym ed ∙ h.1)
+    found_in = let h = sound w d 0 (sym ex ∙ z) in row_in_lem r (sym ew ∙ h.0) (sym ed ∙ h.1)
 
     module _ (kind : ℕ) (ek : kind ≡ field_at r head_width 4) where
-      pub found_entry : kind < first_detail → Found.Entry ≡ found r
+      pub found_entry : kind < first_detail → Ok (Some Piece.Entry) ≡ found r
       unfolding found
       found_entry l = rw (ne_eqb (length r) 0 some, is_fault, z, ← ek, entry_kind kind l)
 

@@ -1,6 +1,5 @@
 pub mod OrderLaws
 pub mod FieldLaws
-pub mod CopyLaws
 pub mod FoundLaws
 pub mod HandLaws
 pub mod RowLaws

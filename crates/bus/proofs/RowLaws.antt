@@ -1,4 +1,6 @@
 -- Writing the row at the front of a table, from what the code knows.
+use Rattle.text.specs.Refusals.{refused_with}
+use Rattle.std.specs.Prelude.{Err, Ok}
 use Prim.Native.Nat.{ℕ, ◌+◌, ◌≤◌, ◌<◌}
 use native.Mathlib.Omega.{arith}
 use mathlib.Core.Path.{◌≡◌, refl, sym, ◌∙◌, ap, subst}
@@ -11,7 +13,6 @@ use lib.Seq.{sets, length-sets, length-take-le}
 use Rattle.row.specs.declared.table.Row.{Row}
 use Rattle.row.proofs.FieldLaws.{sets_append}
 use Rattle.access.specs.Spans.{good_span, span_text}
-use Rattle.bus.specs.declared.writer.Measured.{Measured}
 use Rattle.bus.specs.Refusals.{not_valid, too_long}
 use Rattle.amount.specs.Kinds.{first_detail}
 use Rattle.bus.specs.Fields.{field, is_entry, row_field, text_place, longest, entry_tag, detail_tag, text_tag, head_width}
@@ -85,22 +86,22 @@ module _ (s u : List ℕ) (hu : width ≤ length u) where
     is_good : (g : Bool) → g ≡ good_span s r.start r.end → g ≡ good_span s (row_of u).start (row_of u).end
     is_good g e = subst (λ (q : Row). g ≡ good_span s q.start q.end) er e
 
-    pub measured_entry : r.kind < first_detail → Measured.Bytes row_field ≡ row_measured s u
+    pub measured_entry : r.kind < first_detail → Ok row_field ≡ row_measured s u
     unfolding row_measured measured_by
     measured_entry h = rw (fault_entry s (row_of u) (is_entry_lem h), length_entry (is_entry_lem h))
 
     module _ (h : first_detail ≤ r.kind) (g : Bool) (eg : g ≡ good_span s r.start r.end) where
-      pub measured_bad : g ≡ false → Measured.Fault not_valid ≡ row_measured s u
+      pub measured_bad : g ≡ false → Err (refused_with not_valid 0 0) ≡ row_measured s u
       unfolding row_measured measured_by
       measured_bad t = rw (fault_detail s (row_of u) (is_detail h), ← is_good g eg, t)
 
       module _ (t : g ≡ true) (c : List ℕ) (ec : c ≡ span_text s r.start r.end) where
-        pub measured_long : longest < length c → Measured.Fault too_long ≡ row_measured s u
+        pub measured_long : longest < length c → Err (refused_with too_long 0 0) ≡ row_measured s u
         unfolding row_measured measured_by
         measured_long l =
             rw (fault_detail s (row_of u) (is_detail h), ← is_good g eg, t, ← is_text c ec, lt-leb (length c) longest l)
 
-        pub measured_detail : length c ≤ longest → Measured.Bytes (text_place + length c) ≡ row_measured s u
+        pub measured_detail : length c ≤ longest → Ok (text_place + length c) ≡ row_measured s u
         unfolding row_measured measured_by
         measured_detail l =
             rw (length_detail (is_detail h), fault_detail s (row_of u) (is_detail h), ← is_good g eg, t, ← is_text c ec, le-leb (length c) longest l)

@@ -1,5 +1,8 @@
 -- Writing row by row, from what the code knows.
-use Prim.Native.Nat.{ℕ, suc, ◌+◌, ◌*◌, ◌-◌, ◌≤◌, ◌<◌, ◌^◌, min}
+use Rattle.text.specs.declared.stop.Refused.{Refused}
+use Rattle.text.specs.Refusals.{refused_with}
+use Rattle.std.specs.Prelude.{Err, Ok, Result}
+use Prim.Native.Nat.{ℕ, suc, ◌+◌, ◌*◌, ◌-◌, ◌≤◌, ◌<◌, min}
 use native.Mathlib.Nat.{zero-add}
 use native.Mathlib.Omega.{arith}
 use mathlib.Core.Path.{◌≡◌, refl, sym, ◌∙◌, ap}
@@ -9,11 +12,8 @@ use borrow.Author.Tests.{eqb-true}
 use lib.Dec.{eqb}
 use lib.ListN.{length, take, drop, length-append, length-drop}
 use lib.Seq.{sets, drop-drop, length-sets}
-use mir.Syntax.{w64}
-use mir.Val.{Fits}
 use Rattle.decimal.specs.Exact.{largest}
 use Rattle.row.proofs.FieldLaws.{sets_append}
-use Rattle.bus.specs.declared.writer.Measured.{Measured}
 use Rattle.bus.specs.Writing.{row_of, fault, row_fields, faults, packet}
 use Rattle.bus.specs.steps.Measuring.{measured_by, row_measured, measured_from}
 use Rattle.bus.specs.steps.Putting.{RowFits, RowsFit}
@@ -25,19 +25,19 @@ use Rattle.text.proofs.Steps.{rest_of}
 min_min : (x y z : ℕ) → min (min (x + y) largest + z) largest ≡ min (x + (y + z)) largest
 min_min x y z = omega arith
 
-pub by_fault : (bad n f : ℕ) → measured_by bad n ≡ Measured.Fault f → (eqb bad 0 ≡ false) × (f ≡ bad)
+pub by_fault : (bad n : ℕ) (x : Refused) → measured_by bad n ≡ Err x → (eqb bad 0 ≡ false) × (x ≡ refused_with bad 0 0)
 unfolding measured_by
-by_fault bad n f e = go (eqb bad 0) e
+by_fault bad n x e = go (eqb bad 0) e
   where
-    go : (q : Bool) → cond q (Measured.Bytes n) (Measured.Fault bad) ≡ Measured.Fault f → (q ≡ false) × (f ≡ bad)
-    go true z = absurd (let y : ◌≡◌ {A = ℕ} 0 1 = cc in omega arith)
+    go : (q : Bool) → cond q (Ok n) (Err (refused_with bad 0 0)) ≡ Err x → (q ≡ false) × (x ≡ refused_with bad 0 0)
+    go true z = cc
     go false z = (refl, cc)
 
-pub by_bytes : (bad n k : ℕ) → measured_by bad n ≡ Measured.Bytes k → (bad ≡ 0) × (k ≡ n)
+pub by_bytes : (bad n k : ℕ) → measured_by bad n ≡ Ok k → (bad ≡ 0) × (k ≡ n)
 unfolding measured_by
 by_bytes bad n k e = let h = go (eqb bad 0) e in (eqb-true bad 0 h.0, h.1)
   where
-    go : (q : Bool) → cond q (Measured.Bytes n) (Measured.Fault bad) ≡ Measured.Bytes k → (q ≡ true) × (k ≡ n)
+    go : (q : Bool) → cond q (Ok n) (Err (refused_with bad 0 0)) ≡ Ok k → (q ≡ true) × (k ≡ n)
     go true z = (refl, cc)
     go false z = absurd (let y : ◌≡◌ {A = ℕ} 0 1 = cc in omega arith)
 
@@ -50,9 +50,6 @@ module _ (s t : List ℕ) (left i : ℕ) (h : 0 < left) (m : i + left * width �
 
   pub rest_whole : width ≤ length u
   rest_whole = rw (u_is, length-drop) (omega arith)
-
-  pub rest_fits : length t < 2 ^ 64 → Fits w64 (i + width)
-  rest_fits l = record { fits = omega arith }
 
   pub rest_inside : i + width + (left - 1) * width ≤ length t
   rest_inside = omega arith
@@ -77,20 +74,19 @@ module _ (s t : List ℕ) (left i : ℕ) (h : 0 < left) (m : i + left * width �
       ∙ length-append (row_fields s (drop i t)) (packet s (left - 1) (drop (i + width) t))
       ∙ ap (λ (j : List ℕ). length (row_fields s j) + length (packet s (left - 1) (drop (i + width) t))) (sym u_is)
 
-  module _ (w : Measured) (ew : w ≡ row_measured s u) where
+  module _ (w : Result ℕ Refused) (ew : w ≡ row_measured s u) where
     was : w ≡ measured_by (fault s (row_of (drop i t))) (length (row_fields s u))
     unfolding row_measured
     was = ew ∙ ap (λ (j : List ℕ). measured_by (fault s (row_of j)) (length (row_fields s u))) u_is
 
-    pub measure_fault : (r : Measured) (total f : ℕ) → r ≡ measured_from s left (drop i t) total → w ≡ Measured.Fault f → Measured.Fault f ≡ r
+    pub measure_fault : (r : Result ℕ Refused) (total : ℕ) (x : Refused) → r ≡ measured_from s left (drop i t) total → w ≡ Err x → Err x ≡ r
     unfolding measured_from measured_by
-    measure_fault r total f e z =
-        let q = by_fault (fault s (row_of (drop i t))) (length (row_fields s u)) f (sym was ∙ z) in
-        let a : faults s left (drop i t) ≡ f = faults_step ∙ rw q.0 (sym q.1) in
-        let b : eqb f 0 ≡ false = ap (λ (j : ℕ). eqb j 0) q.1 ∙ q.0 in
-        sym (e ∙ rw (a, b))
+    measure_fault r total x e z =
+        let q = by_fault (fault s (row_of (drop i t))) (length (row_fields s u)) x (sym was ∙ z) in
+        let a : faults s left (drop i t) ≡ fault s (row_of (drop i t)) = faults_step ∙ rw q.0 in
+        sym (e ∙ rw (a, q.0, q.1))
 
-    pub measure_on : (r : Measured) (total k next : ℕ) → r ≡ measured_from s left (drop i t) total → w ≡ Measured.Bytes k → next ≡ min (total + k) largest
+    pub measure_on : (r : Result ℕ Refused) (total k next : ℕ) → r ≡ measured_from s left (drop i t) total → w ≡ Ok k → next ≡ min (total + k) largest
         → r ≡ measured_from s (left - 1) (drop (i + width) t) next
     unfolding measured_from
     measure_on r total k next e z en =
@@ -100,7 +96,16 @@ module _ (s t : List ℕ) (left i : ℕ) (h : 0 < left) (m : i + left * width �
         let b : length (packet s left (drop i t)) ≡ k + length rest = packet_length ∙ ap (λ (j : ℕ). j + length rest) (sym q.1) in
         e ∙ rw (a, b, en, min_min total k (length rest))
 
-pub measure_end : (s u : List ℕ) (left total : ℕ) (r : Measured) → left ≤ 0 → total ≤ largest → r ≡ measured_from s left u total → Measured.Bytes total ≡ r
+-- the same row by row: k rows were measured
+pub measure_next : (s t : List ℕ) (n k : ℕ) → k < n → n * width ≤ length t → (w : Result ℕ Refused) → w ≡ row_measured s (take (length t - k * width) (drop (k * width) t))
+    → (r : Result ℕ Refused) (total size next : ℕ) → r ≡ measured_from s (n - k) (drop (k * width) t) total → w ≡ Ok size → next ≡ min (total + size) largest
+    → r ≡ measured_from s (n - (k + 1)) (drop ((k + 1) * width) t) next
+measure_next s t n k h m w ew r total size next e z en =
+    let a : n - k - 1 ≡ n - (k + 1) = omega arith in
+    let b : k * width + width ≡ (k + 1) * width = omega arith in
+    rw (a, b) at (measure_on s t (n - k) (k * width) (omega arith) (omega arith) w ew r total size next e z en)
+
+pub measure_end : (s u : List ℕ) (left total : ℕ) (r : Result ℕ Refused) → left ≤ 0 → total ≤ largest → r ≡ measured_from s left u total → Ok total ≡ r
 unfolding measured_from measured_by faults packet
 measure_end s u left total r h l e =
     let z : left ≡ 0 = omega arith in
@@ -110,7 +115,7 @@ measure_end s u left total r h l e =
 pub capped : (a b k : ℕ) → k ≡ min (a + b) largest → k ≤ largest
 capped a b k e = omega arith
 
-pub ruleset measure_laws = (rest_whole, rest_fits, rest_inside, measure_fault, measure_on, measure_end, capped)
+pub ruleset measure_laws = (rest_whole, measure_fault, measure_next, measure_end, capped)
 
 -- ---- putting row by row: b is the buffer now, b₀ what it was, and the next row goes to place `at`
 
@@ -126,9 +131,6 @@ put_start s t b n f =
     record { goal = refl; inside = rw (zero-add (n * width)) f.there; sound = f.sound; room = rw (zero-add (length (packet s n t))) f.room; same = refl }
 
 module _ (s t b₀ b : List ℕ) (n left i at : ℕ) (p : Putting s t b₀ n b left i at) where
-  pub put_inside : i + left * width ≤ length t
-  put_inside = p.inside
-
   pub put_end : left ≤ 0 → b ≡ sets b₀ 0 (packet s n t)
   unfolding packet
   put_end h = let z : left ≡ 0 = omega arith in sym (p.goal ∙ rw z)
@@ -155,9 +157,6 @@ module _ (s t b₀ b : List ℕ) (n left i at : ℕ) (p : Putting s t b₀ n b l
           room = omega (arith, packet_length s t left i h p.inside);
         }
 
-    pub put_fits : length t < 2 ^ 64 → Fits w64 (i + width)
-    put_fits l = rest_fits s t left i h p.inside l
-
     pub put_on : (v : List ℕ) (next : ℕ) → next ≡ at + length (row_fields s row) → v ≡ sets b at (row_fields s row) → Putting s t b₀ n v (left - 1) (i + width) next
     put_on v next en ev =
         let l = p.room in
@@ -170,4 +169,13 @@ module _ (s t b₀ b : List ℕ) (n left i at : ℕ) (p : Putting s t b₀ n b l
           same = ap length ev ∙ length-sets b at (row_fields s row) ∙ p.same;
         }
 
-pub ruleset put_laws = (put_start, put_inside, put_end, put_here, put_fits, put_on)
+-- the same row by row: k rows were put
+pub put_next : (s t b₀ b : List ℕ) (n k at : ℕ) → Putting s t b₀ n b (n - k) (k * width) at → k < n → (v : List ℕ) (next : ℕ)
+    → next ≡ at + length (row_fields s (take (length t - k * width) (drop (k * width) t))) → v ≡ sets b at (row_fields s (take (length t - k * width) (drop (k * width) t)))
+    → Putting s t b₀ n v (n - (k + 1)) ((k + 1) * width) next
+put_next s t b₀ b n k at p h v next en ev =
+    let a : n - k - 1 ≡ n - (k + 1) = omega arith in
+    let c : k * width + width ≡ (k + 1) * width = omega arith in
+    rw (a, c) at (put_on s t b₀ b n (n - k) (k * width) at p (omega arith) v next en ev)
+
+pub ruleset put_laws = (put_start, put_end, put_here, put_next)

@@ -1,10 +1,9 @@
 -- Whatever is written reads back as the same rows and texts.
-use Rattle.std.specs.Prelude.{ℕ, zero, suc, ◌≡◌, cond, List, [], ◌∷◌, length, take, drop}
+use Rattle.std.specs.Prelude.{ℕ, zero, suc, ◌≡◌, cond, List, [], ◌∷◌, length, take, drop, None, Some, Err, Ok}
 use Rattle.row.specs.Row.{width}
-use Rattle.access.specs.declared.written.Written.{Written}
-use Rattle.bus.specs.declared.packet.Step.{Step}
+use Rattle.bus.specs.declared.packet.Piece.{Piece}
 use Rattle.bus.specs.Fields.{is_entry, longest}
-use Rattle.bus.specs.Reading.{found, row_in, text_in, handed}
+use Rattle.bus.specs.Reading.{Step, found, row_in, text_in, handed}
 use Rattle.bus.specs.Writing.{row_of, text_of, packet, written}
 
 -- a row's bytes, and its text if it has one
@@ -23,10 +22,11 @@ front i (bad n p) = bad n p
 
 -- what an answer hands out, where r are the bytes left, and what is handed out from the next place on
 abbrev pub further : (ℕ → Held) → List ℕ → Step → Held
-further next r Step.End = all []
-further next r (Step.Refusal number place need) = bad number place
-further next r (Step.Entry behind) = front (record { row = row_in r; texts = [] }) (next behind)
-further next r (Step.Detail behind n) = front (record { row = row_in r; texts = text_in n r ∷ [] }) (next behind)
+further next r (Ok None) = all []
+further next r (Err refused) = bad refused.number refused.place
+further next r (Ok (Some (Piece.Entry, behind))) = front (record { row = row_in r; texts = [] }) (next behind)
+further next r (Ok (Some (Piece.Detail n, behind))) =
+    front (record { row = row_in r; texts = text_in n r ∷ [] }) (next behind)
 
 -- a reader that stands at a place of the packet p, with room for each row and text, is asked again and again: so many
 -- times at the most, after which it has not come to the end
@@ -48,4 +48,4 @@ items s zero u = []
 items s (suc n) u = item_of s u ∷ items s n (drop width u)
 
 abbrev pub ReadsBack : Type 0
-ReadsBack = (s t : List ℕ) (n room m : ℕ) → written s n t room ≡ Written.Bytes m → held_in (packet s n t) ≡ all (items s n t)
+ReadsBack = (s t : List ℕ) (n room m : ℕ) → written s n t room ≡ Ok m → held_in (packet s n t) ≡ all (items s n t)

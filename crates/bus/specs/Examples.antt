@@ -1,14 +1,15 @@
 -- Both sides of each edge of M-112: one list under one statement for writing and one for reading, by computation.
-use Rattle.std.specs.Prelude.{ℕ, ◌+◌, ◌-◌, ◌*◌, ◌≡◌, refl, List, [], ◌∷◌, ◌++◌, map, length, replicate}
+use Rattle.text.specs.Refusals.{refused_with}
+use Rattle.text.specs.declared.stop.Refused.{Refused}
+use Rattle.std.specs.Prelude.{ℕ, ◌+◌, ◌-◌, ◌*◌, ◌≡◌, refl, List, [], ◌∷◌, ◌++◌, map, length, replicate, Err, Ok, Result, None, Some}
 use Rattle.row.specs.Field.{le}
 use Rattle.row.specs.Row.{at_line, width}
 use Rattle.access.specs.Spans.{good_span, span_text}
 use Rattle.access.specs.Tables.{row_at}
-use Rattle.access.specs.declared.written.Written.{Written}
-use Rattle.bus.specs.declared.packet.Step.{Step}
+use Rattle.bus.specs.declared.packet.Piece.{Piece}
 use Rattle.bus.specs.Fields.{is_entry, row_tag, head, field, stated, whole}
 use Rattle.bus.specs.Writing.{text_of, fault, row_fields, faults, packet, refusing, written, written_left}
-use Rattle.bus.specs.Reading.{field_fault, is_row, text_found, found, handed, step_at}
+use Rattle.bus.specs.Reading.{Step, field_fault, is_row, text_found, found, handed, step_at}
 
 -- the bytes of a row: its kind, and a span from a to e
 abbrev row : ℕ → ℕ → ℕ → List ℕ
@@ -26,14 +27,14 @@ abbrev buffer : List ℕ
 buffer = replicate size 7
 
 abbrev Wrote : Type 0
-Wrote = (ℕ × List ℕ) × (Written × List ℕ)
+Wrote = (ℕ × List ℕ) × (Result ℕ Refused × List ℕ)
 
 -- what is written stands at the buffer's front, where n bytes are left as they were
 abbrev writes : ℕ → List ℕ → List ℕ → ℕ → Wrote
-writes k t p n = ((k, t), (Written.Bytes (length p), p ++ replicate n 7))
+writes k t p n = ((k, t), (Ok (length p), p ++ replicate n 7))
 
 abbrev refuses : ℕ → List ℕ → ℕ → ℕ → Wrote
-refuses k t number need = ((k, t), (Written.Refusal number need, buffer))
+refuses k t number need = ((k, t), (Err (refused_with number 0 need), buffer))
 
 -- no rows; an entry's row has no text, whatever its span; kind 19 is an entry's, 20 and 90 are details'; a length
 -- stands highest first; a count over the table; a bad span, turned or past the end; row by row; a buffer one byte
@@ -76,17 +77,17 @@ abbrev hands : List ℕ → Step → Read
 hands p x = (0 ∷ p, x)
 
 abbrev refused : List ℕ → ℕ → ℕ → Read
-refused p number place = (0 ∷ p, Step.Refusal number place 0)
+refused p number place = (0 ∷ p, Err (refused_with number place 0))
 
 -- the end; a row; a row and its text; a field cut short in its head or its content; a packet that ends where a text is
 -- due; a tag that is unknown, not its kind's, or a text's where a row is due; a row length that is not a row's; a row
 -- where a text is due; cut short goes before a wrong tag; a text over the room
 unfoldable pub reading : List Read
 reading =
-    hands [] Step.End
-    ∷ hands entry (Step.Entry next)
-    ∷ hands (detail ++ (3 ∷ 0 ∷ 2 ∷ 97 ∷ 98 ∷ 1 ∷ [])) (Step.Detail (next + 5) 2)
-    ∷ hands (detail ++ (3 ∷ 0 ∷ 0 ∷ [])) (Step.Detail (next + 3) 0)
+    hands [] (Ok None)
+    ∷ hands entry (Ok (Some (Piece.Entry, next)))
+    ∷ hands (detail ++ (3 ∷ 0 ∷ 2 ∷ 97 ∷ 98 ∷ 1 ∷ [])) (Ok (Some (Piece.Detail 2, next + 5)))
+    ∷ hands (detail ++ (3 ∷ 0 ∷ 0 ∷ [])) (Ok (Some (Piece.Detail 0, next + 3)))
     ∷ refused (1 ∷ 0 ∷ []) 19 1
     ∷ refused (1 ∷ 0 ∷ width ∷ replicate (width - 1) 0) 19 1
     ∷ refused detail 19 next
@@ -99,7 +100,7 @@ reading =
     ∷ refused (detail ++ entry) 20 next
     ∷ refused (7 ∷ 0 ∷ width ∷ []) 19 1
     ∷ refused (detail ++ (7 ∷ 0 ∷ 1 ∷ [])) 19 next
-    ∷ hands (detail ++ (3 ∷ 0 ∷ 3 ∷ 97 ∷ 98 ∷ 99 ∷ [])) (Step.Refusal 9 0 3)
+    ∷ hands (detail ++ (3 ∷ 0 ∷ 3 ∷ 97 ∷ 98 ∷ 99 ∷ [])) (Err (refused_with 9 0 3))
     ∷ []
 
 pub reading_holds : map (λ r. step_at r.0 1 (replicate width 0) (replicate 2 0)) reading ≡ map (λ r. r.1) reading

@@ -1,15 +1,30 @@
 -- Reading a packet: what stands at the front of the bytes that are left, and what a reader hands out of it.
-use Rattle.std.specs.Prelude.{ℕ, ◌+◌, Bool, cond, ◌&&◌, List, ◌++◌, ◌≡◌, eqb, leb, length, take, drop}
+use Rattle.std.specs.Prelude.{ℕ, ◌+◌, Bool, cond, ◌&&◌, List, ◌++◌, ◌≡◌, eqb, leb, length, take, drop, None, Option, Some, Err, Ok, Result}
 use Rattle.row.specs.Field.{field_at}
 use Rattle.row.specs.Row.{width}
-use Rattle.bus.specs.declared.packet.Found.{Found}
-use Rattle.bus.specs.declared.packet.Step.{Step}
+use Rattle.text.specs.declared.stop.Refused.{Refused}
+use Rattle.text.specs.Refusals.{refused_with}
+use Rattle.bus.specs.declared.packet.Piece.{Piece}
 use Rattle.bus.specs.Refusals.{too_short, cut_short, wrong_field}
 use Rattle.bus.specs.Fields.{text_tag, is_entry, row_tag, head_width, row_field, text_place, tag_in, stated, whole}
 
--- of a field: 19 where it is cut short, then 20 where it is not what is due; or 0
-unfoldable pub field_fault : Bool → Bool → ℕ
-field_fault is_whole isDue = cond is_whole (cond isDue 0 wrong_field) cut_short
+-- what stands at the front of some bytes, if anything does; or a refusal, placed by the bytes before its field
+abbrev pub Found : Type 0
+Found = Result (Option Piece) Refused
+
+-- the answer of a reader: what it hands out, with the place behind that; nothing, at the end; or a refusal
+abbrev pub Step : Type 0
+Step = Result (Option (Piece × ℕ)) Refused
+
+-- of a field at a place: 19 where it is cut short, then 20 where it is not what is due
+unfoldable pub field_fault : Bool → Bool → ℕ → Result Unit Refused
+field_fault is_whole isDue place =
+    cond is_whole (cond isDue (Ok tt) (Err (refused_with wrong_field place 0))) (Err (refused_with cut_short place 0))
+
+-- what is found behind a field, if nothing refuses that
+abbrev pub behind_field : Result Unit Refused → Found → Found
+behind_field (Ok u) f = f
+behind_field (Err r) f = Err r
 
 -- the kind in a row's field
 abbrev pub kind_in : List ℕ → ℕ
@@ -22,16 +37,14 @@ is_row r = eqb (stated r) width && eqb (tag_in r) (row_tag (kind_in r))
 -- a text is due, behind its row
 unfoldable pub text_found : List ℕ → Found
 text_found r =
-    let bad = field_fault (whole r) (eqb (tag_in r) text_tag) in
-    cond (eqb bad 0) (Found.Detail (stated r)) (Found.Bad bad row_field)
+    behind_field (field_fault (whole r) (eqb (tag_in r) text_tag) row_field) (Ok (Some (Piece.Detail (stated r))))
 
--- what stands at the front: nothing, an entry's row, a detail's row with its text, or a refusal of a field, with the
--- number of bytes before that field
+-- what stands at the front: nothing, an entry's row, a detail's row with its text, or a refusal of a field
 unfoldable pub found : List ℕ → Found
 found r =
-    let bad = field_fault (whole r) (is_row r) in
-    cond (eqb (length r) 0) Found.End
-    (cond (eqb bad 0) (cond (is_entry (kind_in r)) Found.Entry (text_found (drop row_field r))) (Found.Bad bad 0))
+    cond (eqb (length r) 0) (Ok None)
+    (behind_field (field_fault (whole r) (is_row r) 0)
+    (cond (is_entry (kind_in r)) (Ok (Some Piece.Entry)) (text_found (drop row_field r))))
 
 -- what is handed out: the row, and the text of n bytes
 abbrev pub row_in : List ℕ → List ℕ
@@ -40,30 +53,30 @@ row_in r = take width (drop head_width r)
 abbrev pub text_in : ℕ → List ℕ → List ℕ
 text_in n r = take n (drop text_place r)
 
--- the answer of a reader that stands at a place, with so much room for a row and for a text: the place behind what it
--- hands out, and the text's length; 19 and 20 at the start of their field; then 9 with the need, the row's buffer first
+-- the answer of a reader that stands at a place, with so much room for a row and for a text: what it hands out,
+-- with the place behind that; 19 and 20 at the start of their field; then 9 with the need, the row's buffer first
 unfoldable pub handed : ℕ → ℕ → ℕ → Found → Step
-handed at rowRoom textRoom Found.End = Step.End
-handed at rowRoom textRoom (Found.Bad number before) = Step.Refusal number (at + before) 0
-handed at rowRoom textRoom Found.Entry = cond (leb width rowRoom) (Step.Entry (at + row_field)) (Step.Refusal too_short 0 width)
-handed at rowRoom textRoom (Found.Detail n) =
+handed at rowRoom textRoom (Ok None) = Ok None
+handed at rowRoom textRoom (Err r) = Err (refused_with r.number (at + r.place) 0)
+handed at rowRoom textRoom (Ok (Some Piece.Entry)) =
+    cond (leb width rowRoom) (Ok (Some (Piece.Entry, at + row_field))) (Err (refused_with too_short 0 width))
+handed at rowRoom textRoom (Ok (Some (Piece.Detail n))) =
     cond (leb width rowRoom)
-    (cond (leb n textRoom) (Step.Detail (at + text_place + n) n) (Step.Refusal too_short 0 n))
-    (Step.Refusal too_short 0 width)
+    (cond (leb n textRoom) (Ok (Some (Piece.Detail n, at + text_place + n))) (Err (refused_with too_short 0 n)))
+    (Err (refused_with too_short 0 width))
 
 -- the row's buffer b afterwards, where r are the bytes left: a refusal leaves it as it was
 unfoldable pub row_left : Step → List ℕ → List ℕ → List ℕ
-row_left Step.End r b = b
-row_left (Step.Refusal number place need) r b = b
-row_left (Step.Entry next) r b = row_in r ++ drop width b
-row_left (Step.Detail next n) r b = row_in r ++ drop width b
+row_left (Ok None) r b = b
+row_left (Err refused) r b = b
+row_left (Ok (Some (piece, next))) r b = row_in r ++ drop width b
 
 -- the text's buffer afterwards
 unfoldable pub text_left : Step → List ℕ → List ℕ → List ℕ
-text_left Step.End r b = b
-text_left (Step.Refusal number place need) r b = b
-text_left (Step.Entry next) r b = b
-text_left (Step.Detail next n) r b = text_in n r ++ drop n b
+text_left (Ok None) r b = b
+text_left (Err refused) r b = b
+text_left (Ok (Some (Piece.Entry, next))) r b = b
+text_left (Ok (Some (Piece.Detail n, next))) r b = text_in n r ++ drop n b
 
 -- the step of a reader that stands at a place of the packet p and is lent a buffer b for the row and c for the text
 abbrev pub step_at : List ℕ → ℕ → List ℕ → List ℕ → Step
@@ -77,7 +90,6 @@ pub record Hands (p : List ℕ) (at : ℕ) (b c : List ℕ) (x : Step) (b' c' : 
 
 -- where it stands afterwards: behind what it handed out; a refusal does not move it
 abbrev pub place_after : ℕ → Step → ℕ
-place_after at (Step.Entry next) = next
-place_after at (Step.Detail next n) = next
-place_after at Step.End = at
-place_after at (Step.Refusal number place need) = at
+place_after at (Ok (Some (piece, next))) = next
+place_after at (Ok None) = at
+place_after at (Err refused) = at

@@ -1,12 +1,13 @@
 -- Writing a packet from the first rows of a table: each row as a field, each detail row followed by the text of its
 -- span.
-use Rattle.std.specs.Prelude.{ℕ, zero, suc, min, cond, List, [], ◌++◌, eqb, leb, length, take, drop}
+use Rattle.text.specs.Refusals.{refused_with}
+use Rattle.text.specs.declared.stop.Refused.{Refused}
+use Rattle.std.specs.Prelude.{ℕ, zero, suc, min, cond, List, [], ◌++◌, eqb, leb, length, take, drop, Err, Ok, Result}
 use Rattle.decimal.specs.Exact.{largest}
 use Rattle.row.specs.declared.table.Row.{Row}
 use Rattle.row.specs.Row.{width, room}
 use Rattle.access.specs.Spans.{good_span, span_text}
 use Rattle.access.specs.Tables.{row_at}
-use Rattle.access.specs.declared.written.Written.{Written}
 use Rattle.bus.specs.Refusals.{too_short, not_valid, too_long}
 use Rattle.bus.specs.Fields.{entry_tag, detail_tag, text_tag, is_entry, field, longest}
 
@@ -44,12 +45,12 @@ unfoldable pub refusing : List ℕ → ℕ → List ℕ → ℕ
 refusing s n t = cond (leb n (room t)) (faults s n t) not_valid
 
 -- the answer, of a buffer with so much room: 9, with the need, comes last
-unfoldable pub written : List ℕ → ℕ → List ℕ → ℕ → Written
+unfoldable pub written : List ℕ → ℕ → List ℕ → ℕ → Result ℕ Refused
 written s n t room =
     let m = length (packet s n t) in
     cond (eqb (refusing s n t) 0)
-    (cond (leb m room) (Written.Bytes m) (Written.Refusal too_short (min m largest)))
-    (Written.Refusal (refusing s n t) 0)
+    (cond (leb m room) (Ok m) (Err (refused_with too_short 0 (min m largest))))
+    (Err (refused_with (refusing s n t) 0 0))
 
 -- every byte of the buffer afterwards: a refusal leaves it as it was
 unfoldable pub written_left : List ℕ → ℕ → List ℕ → List ℕ → List ℕ

@@ -6,7 +6,7 @@ ghost use Rattle.bus.specs.Fields.{head_width, head, field, longest, stated, who
 use row::{table, work};
 use text::bytes;
 
-// The tags of an entry's row, a detail's row and a text.
+// The tags of an entry's row, a detail's row and a text. Numbers, for a lent packet may hold any.
 pub const ENTRY: u8 = 1;
 
 pub const DETAIL: u8 = 2;
@@ -28,8 +28,8 @@ pub const TEXT_PLACE: usize = ROW_FIELD + HEAD;
 pub fn stated_length(r: &[u8]) -> usize
     ensures { (result ≡ stated r.now) × (result ≤ longest) }
 {
-    let high = bytes::wide(bytes::peek(r, 1));
-    let low = bytes::wide(bytes::peek(r, 2));
+    let high = usize::from(bytes::peek(r, 1));
+    let low = usize::from(bytes::peek(r, 2));
     high * 256 + low
 }
 
@@ -43,12 +43,12 @@ pub fn is_whole(r: &[u8]) -> bool
     HEAD + stated_length(r) <= r.len()
 }
 
-// So many bytes of `from`, from place `at` on, to the front of `to`.
+// So many bytes of `from`, from place `at` on, to the front of `to`: `copy_from_slice` of parts, in one equation.
 pub fn copy_part(from: &[u8], at: usize, n: usize, to: &mut [u8])
     requires { (at + n ≤ length from.now) × (n ≤ length to.old) }
     ensures { to.new ≡ take n (drop at from.now) ++ drop n to.old }
 {
-    work::copy(&from[at..at + n], to, 0);
+    to[0..n].copy_from_slice(&from[at..at + n]);
 }
 
 // A tag and a length to `to`, from place `at` on: the length's highest byte first.
@@ -57,8 +57,8 @@ fn put_head(tag: u8, n: usize, to: &mut [u8], at: usize)
     ensures { to.new ≡ sets to.old at (head tag n) }
 {
     to[at] = tag;
-    to[at + 1] = bytes::narrow(n / 256);
-    to[at + 2] = bytes::narrow(n % 256);
+    to[at + 1] = (n / 256) as u8;
+    to[at + 2] = (n % 256) as u8;
 }
 
 // A field to `to`, from place `at` on: the place behind it.

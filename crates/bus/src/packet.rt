@@ -1,5 +1,7 @@
 // What stands at a place of a packet, and what is handed out of it.
 ghost use Rattle.std.specs.Prelude.{◌≡◌};
+ghost use Rattle.text.specs.Refusals.{refused_with};
+ghost use Rattle.bus.specs.Refusals.{too_short};
 ghost use Rattle.bus.specs.Fields.{row_tag};
 ghost use Rattle.bus.specs.Reading.{field_fault, is_row, text_found, found, Hands, place_after};
 
@@ -7,54 +9,53 @@ use crate::field;
 use amount::kind;
 use row::table;
 use text::bytes;
+use text::stop::{CUT_SHORT, Refused, TOO_SHORT, WRONG_FIELD, refused_at};
 
-// Refusals: a buffer too short, a field cut short, a field that is not what is due.
-const TOO_SHORT: usize = 9;
-
-const CUT_SHORT: usize = 19;
-
-const WRONG_FIELD: usize = 20;
-
-// What stands at the front of the bytes left: a row of an entry; a row of a detail with a text of so many bytes;
-// nothing; or a refusal's number, and how many bytes stand before its field.
+// What is handed out at once: a row of an entry; or a row of a detail, with a text of so many bytes.
 #[derive(Clone, Copy)]
-pub enum Found {
+pub enum Piece {
     Entry,
     Detail(usize),
-    End,
-    Bad(usize, usize),
 }
 
-// What a reader answers: the place behind the row, or behind the row and its text of so many bytes; or a refusal's
-// number, place and need.
-#[derive(Clone, Copy)]
-pub enum Step {
-    Entry(usize),
-    Detail(usize, usize),
-    End,
-    Refusal(usize, usize, usize),
-}
+// What stands at the front of the bytes left, if anything does; a refusal is placed by how many bytes stand before its
+// field.
+pub type Found = Result<Option<Piece>, Refused>;
 
-// Of a field: 19 where it is cut short, then 20 where it is not what is due; or 0.
-fn field_fault(whole: bool, due: bool) -> usize
-    ensures { result ≡ field_fault whole due }
+// What a reader answers: what it hands out, and the place behind that; or nothing, at the packet's end.
+pub type Step = Result<Option<(Piece, usize)>, Refused>;
+
+// Of a field at a place: 19 where it is cut short, then 20 where it is not what is due.
+fn field_fault(whole: bool, due: bool, place: usize) -> Result<(), Refused>
+    ensures { result ≡ field_fault whole due place }
 {
     if whole {
         if due {
-            return 0;
+            return Ok(());
         }
-        return WRONG_FIELD;
+        return Err(refused_at(WRONG_FIELD, place));
     }
-    CUT_SHORT
+    Err(refused_at(CUT_SHORT, place))
 }
 
-fn row_tag(kind: usize) -> usize
+// A buffer that has no room for so many bytes.
+fn too_short(need: usize) -> Refused
+    ensures { result ≡ refused_with too_short 0 need }
+{
+    Refused {
+        number: TOO_SHORT,
+        place: 0,
+        count: need,
+    }
+}
+
+fn row_tag(kind: usize) -> u8
     ensures { result ≡ row_tag kind }
 {
     if kind < kind::FIRST_DETAIL {
-        bytes::wide(field::ENTRY)
+        field::ENTRY
     } else {
-        bytes::wide(field::DETAIL)
+        field::DETAIL
     }
 }
 
@@ -62,7 +63,7 @@ fn row_tag(kind: usize) -> usize
 fn is_row(r: &[u8]) -> bool
     ensures { result ≡ is_row r.now }
 {
-    let tag = bytes::wide(bytes::peek(r, 0));
+    let tag = bytes::peek(r, 0);
     let due = row_tag(table::field_at(r, field::HEAD, 4));
     (field::stated_length(r) == table::WIDTH) & (tag == due)
 }
@@ -72,11 +73,8 @@ fn find_text(r: &[u8]) -> Found
     ensures { result ≡ text_found r.now }
 {
     let tag = bytes::peek(r, 0);
-    let bad = field_fault(field::is_whole(r), tag == field::TEXT);
-    if bad == 0 {
-        return Found::Detail(field::stated_length(r));
-    }
-    Found::Bad(bad, field::ROW_FIELD)
+    field_fault(field::is_whole(r), tag == field::TEXT, field::ROW_FIELD)?;
+    Ok(Some(Piece::Detail(field::stated_length(r))))
 }
 
 // A row is due.
@@ -84,16 +82,13 @@ fn find(r: &[u8]) -> Found
     ensures { result ≡ found r.now }
 {
     if r.len() == 0 {
-        return Found::End;
+        return Ok(None);
     }
-    let bad = field_fault(field::is_whole(r), is_row(r));
-    if bad == 0 {
-        if table::field_at(r, field::HEAD, 4) < kind::FIRST_DETAIL {
-            return Found::Entry;
-        }
-        return find_text(&r[field::ROW_FIELD..]);
+    field_fault(field::is_whole(r), is_row(r), 0)?;
+    if table::field_at(r, field::HEAD, 4) < kind::FIRST_DETAIL {
+        return Ok(Some(Piece::Entry));
     }
-    Found::Bad(bad, 0)
+    find_text(&r[field::ROW_FIELD..])
 }
 
 // What stands at a place of a packet is handed out: a row, and the text of a detail.
@@ -101,30 +96,31 @@ pub fn hand_out(packet: &[u8], at: usize, row: &mut [u8], text: &mut [u8]) -> St
     ensures { Hands packet.now at row.old text.old result row.new text.new }
 {
     if packet.len() <= at {
-        return Step::End;
+        return Ok(None);
     }
     let rest = &packet[at..];
-    let f = find(rest);
-    match f {
-        Found::End => Step::End,
-        Found::Bad(number, before) => Step::Refusal(number, at + before, 0),
-        Found::Entry => {
-            if row.len() < table::WIDTH {
-                return Step::Refusal(TOO_SHORT, 0, table::WIDTH);
-            }
+    let found = match find(rest) {
+        Ok(found) => found,
+        Err(refused) => return Err(refused_at(refused.number, at + refused.place)),
+    };
+    let Some(piece) = found else {
+        return Ok(None);
+    };
+    if row.len() < table::WIDTH {
+        return Err(too_short(table::WIDTH));
+    }
+    match piece {
+        Piece::Entry => {
             field::copy_part(rest, field::HEAD, table::WIDTH, row);
-            Step::Entry(at + field::ROW_FIELD)
+            Ok(Some((piece, at + field::ROW_FIELD)))
         }
-        Found::Detail(n) => {
-            if row.len() < table::WIDTH {
-                return Step::Refusal(TOO_SHORT, 0, table::WIDTH);
-            }
+        Piece::Detail(n) => {
             if text.len() < n {
-                return Step::Refusal(TOO_SHORT, 0, n);
+                return Err(too_short(n));
             }
             field::copy_part(rest, field::HEAD, table::WIDTH, row);
             field::copy_part(rest, field::TEXT_PLACE, n, text);
-            Step::Detail(at + field::TEXT_PLACE + n, n)
+            Ok(Some((piece, at + field::TEXT_PLACE + n)))
         }
     }
 }
@@ -134,9 +130,8 @@ pub fn next_place(x: Step, at: usize) -> usize
     ensures { result ≡ place_after at x }
 {
     match x {
-        Step::Entry(next) => next,
-        Step::Detail(next, _) => next,
-        Step::End => at,
-        Step::Refusal(_, _, _) => at,
+        Ok(Some((_, next))) => next,
+        Ok(None) => at,
+        Err(_) => at,
     }
 }

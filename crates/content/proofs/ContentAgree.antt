@@ -1,6 +1,8 @@
 -- Locality of rule 10's contents with a string, and of what follows a content: what follows a text that ends in a line
 -- feed does not count, if it starts with a boundary's byte, but for strings, which may cross the cut. M is the text's
 -- length: below it a place stands inside a line.
+use Rattle.text.specs.declared.stop.Cause.{Cause}
+use Rattle.std.specs.Prelude.{None, Some}
 use Prim.Native.Nat.{ℕ, suc, ◌+◌, ◌≤◌, ◌<◌}
 use native.Mathlib.Omega.{arith}
 use mathlib.Core.Path.{◌≡◌, refl, sym, ◌∙◌, ap, subst}
@@ -13,7 +15,6 @@ use Rattle.text.specs.Run.{blanks}
 use Rattle.text.specs.Lines.{gap_at, comment_end, eol_at, line_end_at}
 use Rattle.text.specs.Answer.{To, Miss, more, ◌and◌, maybe}
 use Rattle.text.specs.Leaves.{token, gap, hard_gap, line_end}
-use Rattle.text.specs.declared.Read.{Read}
 use Rattle.text.proofs.Steps.{byte_within}
 use Rattle.text.proofs.Joins.{required, Reach, reach_from, and_reach, and_parts}
 use Rattle.text.proofs.Alike.{Same, Upto, upto, same_eq, same_ends, and_alike, maybe_alike}
@@ -21,7 +22,7 @@ use Rattle.text.proofs.SharedLines.{Shared, gap_alike, line_alike, hard_gap_alik
 use Rattle.text.specs.Boundaries.{is_start}
 use Rattle.text.proofs.TokenEnds.{line_reach, hard_gap_reach}
 use Rattle.text.proofs.TextCut.{xs, s, cut, same_byte}
-use Rattle.text.specs.Refusals.{required_number}
+use Rattle.text.specs.Refusals.{missing}
 use Rattle.amount.specs.declared.detail.Detail.{Detail}
 use Rattle.amount.specs.Details.{Rows, span, quoted}
 use Rattle.row.proofs.SureLaws.{Sure, sure_must, sure_and}
@@ -52,17 +53,17 @@ gap_quote : (s : List ℕ) (at g : ℕ) (x : List Detail) → gap s at ≡ To g 
 unfolding gap gap_at token
 gap_quote s at g x e f = go (ltb at (blanks s at)) e
   where
-    go : (c : Bool) → ◌≡◌ {A = Rows} (token (cond c (Read.To (blanks s at)) Read.Miss)) (To g x) → line_end {A = Detail} s at ≡ Miss
+    go : (c : Bool) → ◌≡◌ {A = Rows} (token (cond c (Some (blanks s at)) None)) (To g x) → line_end {A = Detail} s at ≡ Miss
     go true e = let z : blanks s at ≡ g = cc in quote_line s at (rw z f)
     go false e = absurd (let z : ◌≡◌ {A = ℕ} 0 1 = cc in omega arith)
 
-hard_gap_sure : (n : ℕ) (s : List ℕ) (at : ℕ) → Sure (hard_gap n s at)
+hard_gap_sure : (n : Cause) (s : List ℕ) (at : ℕ) → Sure (hard_gap n s at)
 unfolding hard_gap
 hard_gap_sure n s at = sure_must n at _
 
 hard_string_sure : (s : List ℕ) (at : ℕ) → Sure (hard_string s at)
 unfolding hard_string
-hard_string_sure s at = sure_must required_number at _
+hard_string_sure s at = sure_must missing at _
 
 module _ (front t : List ℕ) (b : ℕ) (B : is_start b ≡ true) where
   abbrev X : List ℕ
@@ -84,7 +85,7 @@ module _ (front t : List ℕ) (b : ℕ) (B : is_start b ≡ true) where
 
   pub hard_string_agree : (at : ℕ) → at < M → Agrees M M false (hard_string S at) (hard_string X at)
   unfolding hard_string
-  hard_string_agree at h = must_agree required_number at (quoted_span front t b B 34 refl at (omega arith))
+  hard_string_agree at h = must_agree missing at (quoted_span front t b B 34 refl at (omega arith))
 
   pub option_string_agree : (at : ℕ) → at < M → Agrees M M true (quoted (span 34) S at) (quoted (span 34) X at)
   option_string_agree at h = quoted_span front t b B 34 refl at (omega arith)
@@ -93,9 +94,9 @@ module _ (front t : List ℕ) (b : ℕ) (B : is_start b ≡ true) where
   unfolding event_of
   event_of_agree at h =
       and_loose N (hard_string_agree at h) (hard_string_reach S at (omega (arith, longer front t b B)))
-      (λ a _ h₁. and_agree (hard_gap_alike C required_number (upto a h₁)) (λ g h₂. hard_string_agree g h₂))
-      (λ a p q. and_reach N (a + 1) a (hard_gap required_number S a) _ (hard_gap_reach S a required q) (λ g u v. reach_from N (g + 1) a (hard_string S g) (omega arith) (hard_string_reach S g v)))
-      (λ a. sure_and _ (hard_gap_sure required_number S a) (hard_string_sure S))
+      (λ a _ h₁. and_agree (hard_gap_alike C missing (upto a h₁)) (λ g h₂. hard_string_agree g h₂))
+      (λ a p q. and_reach N (a + 1) a (hard_gap missing S a) _ (hard_gap_reach S a required q) (λ g u v. reach_from N (g + 1) a (hard_string S g) (omega arith) (hard_string_reach S g v)))
+      (λ a. sure_and _ (hard_gap_sure missing S a) (hard_string_sure S))
 
   -- ---- open: its booking, with what follows
 

@@ -6,7 +6,7 @@ use mathlib.Core.List.{List}
 use lib.ListN.{length}
 use Rattle.text.proofs.Alike.{Alike, both_to, then_alike, and_alike, must_alike, maybe_alike, many_alike}
 use Rattle.text.proofs.SharedLines.{Shared, told, blanks_alike, account_alike, byte_alike, currency_alike, comma_alike, hard_gap_alike}
-use Rattle.text.specs.Refusals.{required_number}
+use Rattle.text.specs.Refusals.{missing}
 use Rattle.amount.proofs.ExpressionAlike.{expression_alike}
 use Rattle.content.specs.Contents.{hard_account, tolerance, balance_of, one_currency, further, currencies, pad_of}
 use Rattle.content.proofs.ContentEnds.{further_reach}
@@ -14,7 +14,7 @@ use Rattle.content.proofs.ContentEnds.{further_reach}
 module _ {Q : Type 0} {s z : List ℕ} {K P : ℕ → ℕ → Type 0} (L : Shared Q s z K P) where
   pub hard_account_alike : {i j : ℕ} → K i j → Alike Q K (hard_account s i) (hard_account z j)
   unfolding hard_account
-  hard_account_alike S = and_alike _ _ (must_alike required_number _ _ (told L S) (account_alike L S)) (λ a b T. both_to a b _ _ T (λ q. rw (told L S q, told L T q)))
+  hard_account_alike S = and_alike _ _ (must_alike missing _ _ (told L S) (account_alike L S)) (λ a b T. both_to a b _ _ T (λ q. rw (told L S q, told L T q)))
 
   tolerance_alike : {i j : ℕ} → K i j → Alike Q K (tolerance s i) (tolerance z j)
   unfolding tolerance
@@ -26,14 +26,14 @@ module _ {Q : Type 0} {s z : List ℕ} {K P : ℕ → ℕ → Type 0} (L : Share
   pub balance_of_alike : {i j : ℕ} → K i j → Alike Q K (balance_of s i) (balance_of z j)
   unfolding balance_of
   balance_of_alike S =
-      and_alike _ _ (hard_account_alike S) (λ a b T. and_alike _ _ (hard_gap_alike L required_number T) (λ c d U.
-      then_alike _ _ (must_alike required_number _ _ (told L U) (expression_alike L U)) (λ e f v w W t. then_alike _ _ (maybe_alike e f W (tolerance_alike W)) (λ g h x y X u.
-      and_alike _ _ (hard_gap_alike L required_number X) (λ k l Y. and_alike _ _ (must_alike required_number _ _ (told L Y) (currency_alike L Y)) (λ m n Z.
+      and_alike _ _ (hard_account_alike S) (λ a b T. and_alike _ _ (hard_gap_alike L missing T) (λ c d U.
+      then_alike _ _ (must_alike missing _ _ (told L U) (expression_alike L U)) (λ e f v w W t. then_alike _ _ (maybe_alike e f W (tolerance_alike W)) (λ g h x y X u.
+      and_alike _ _ (hard_gap_alike L missing X) (λ k l Y. and_alike _ _ (must_alike missing _ _ (told L Y) (currency_alike L Y)) (λ m n Z.
       both_to m n _ _ Z (λ q. rw (told L U q, told L W q, told L Y q, told L Z q, t q, u q))))))))
 
   pub pad_of_alike : {i j : ℕ} → K i j → Alike Q K (pad_of s i) (pad_of z j)
   unfolding pad_of
-  pad_of_alike S = and_alike _ _ (hard_account_alike S) (λ a b T. and_alike _ _ (hard_gap_alike L required_number T) (λ c d U. hard_account_alike U))
+  pad_of_alike S = and_alike _ _ (hard_account_alike S) (λ a b T. and_alike _ _ (hard_gap_alike L missing T) (λ c d U. hard_account_alike U))
 
   one_currency_alike : {i j : ℕ} → K i j → Alike Q K (one_currency s i) (one_currency z j)
   unfolding one_currency

@@ -10,7 +10,7 @@ use Rattle.text.specs.Leaves.{currency, byte, comma, hard_gap}
 use Rattle.text.specs.Accounts.{account}
 use Rattle.text.proofs.Joins.{required, Reach, to_reach, reach_from, must_reach, then_reach, and_reach}
 use Rattle.text.proofs.TokenEnds.{run_reach, account_reach, currency_reach, byte_reach, comma_reach, hard_gap_reach}
-use Rattle.text.specs.Refusals.{required_number}
+use Rattle.text.specs.Refusals.{missing}
 use Rattle.amount.specs.Expression.{expression}
 use Rattle.amount.proofs.ExpressionEnds.{expression_reach}
 use Rattle.amount.proofs.AmountLaws.{quoted_reach}
@@ -24,7 +24,7 @@ module _ (s : List ℕ) where
   pub hard_account_reach : (at : ℕ) → at ≤ N → Reach N (at + 1) (hard_account s at)
   unfolding hard_account
   hard_account_reach at h =
-      and_reach N (at + 1) (at + 1) (must required_number at (account s at)) _ (must_reach N (at + 1) required at _ h (account_reach s at)) (λ e p q. to_reach N (at + 1) e _ p q)
+      and_reach N (at + 1) (at + 1) (must missing at (account s at)) _ (must_reach N (at + 1) required at _ h (account_reach s at)) (λ e p q. to_reach N (at + 1) e _ p q)
 
   pub hard_string_reach : (at : ℕ) → at ≤ N → Reach N (at + 1) (hard_string s at)
   unfolding hard_string
@@ -43,11 +43,11 @@ module _ (s : List ℕ) where
   unfolding balance_of
   balance_of_reach at h =
       and_reach N (at + 1) (at + 1) (hard_account s at) _ (hard_account_reach at h) (λ a p₁ q₁.
-      and_reach N (a + 1) (at + 1) (hard_gap required_number s a) _ (hard_gap_reach s a required q₁) (λ g p₂ q₂.
-      then_reach N (g + 1) (at + 1) (must required_number g (expression s g)) _ (must_reach N (g + 1) required g _ q₂ (expression_reach s g)) (λ e v p₃ q₃.
+      and_reach N (a + 1) (at + 1) (hard_gap missing s a) _ (hard_gap_reach s a required q₁) (λ g p₂ q₂.
+      then_reach N (g + 1) (at + 1) (must missing g (expression s g)) _ (must_reach N (g + 1) required g _ q₂ (expression_reach s g)) (λ e v p₃ q₃.
       then_reach N e (at + 1) (maybe e (tolerance s e)) _ (optional_reach N e _ q₃ (tolerance_reach e q₃)) (λ t ts p₄ q₄.
-      and_reach N (t + 1) (at + 1) (hard_gap required_number s t) _ (hard_gap_reach s t required q₄) (λ c p₅ q₅.
-      and_reach N (c + 1) (at + 1) (must required_number c (currency s c)) _ (must_reach N (c + 1) required c _ q₅ (currency_reach s c)) (λ d p₆ q₆.
+      and_reach N (t + 1) (at + 1) (hard_gap missing s t) _ (hard_gap_reach s t required q₄) (λ c p₅ q₅.
+      and_reach N (c + 1) (at + 1) (must missing c (currency s c)) _ (must_reach N (c + 1) required c _ q₅ (currency_reach s c)) (λ d p₆ q₆.
       to_reach N (at + 1) d _ (omega arith) q₆))))))
 
   pub one_currency_reach : (at : ℕ) → Reach N (at + 1) (one_currency s at)
@@ -81,12 +81,12 @@ module _ (s : List ℕ) where
   unfolding pad_of
   pad_of_reach at h =
       and_reach N (at + 1) (at + 1) (hard_account s at) _ (hard_account_reach at h) (λ a p₁ q₁.
-      and_reach N (a + 1) (at + 1) (hard_gap required_number s a) _ (hard_gap_reach s a required q₁) (λ g p₂ q₂.
+      and_reach N (a + 1) (at + 1) (hard_gap missing s a) _ (hard_gap_reach s a required q₁) (λ g p₂ q₂.
       reach_from N (g + 1) (at + 1) (hard_account s g) (omega arith) (hard_account_reach g q₂)))
 
   pub event_of_reach : (at : ℕ) → at ≤ N → Reach N (at + 1) (event_of s at)
   unfolding event_of
   event_of_reach at h =
       and_reach N (at + 1) (at + 1) (hard_string s at) _ (hard_string_reach at h) (λ a p₁ q₁.
-      and_reach N (a + 1) (at + 1) (hard_gap required_number s a) _ (hard_gap_reach s a required q₁) (λ g p₂ q₂.
+      and_reach N (a + 1) (at + 1) (hard_gap missing s a) _ (hard_gap_reach s a required q₁) (λ g p₂ q₂.
       reach_from N (g + 1) (at + 1) (hard_string s g) (omega arith) (hard_string_reach g q₂)))

@@ -1,19 +1,19 @@
 -- Rule 10: the rows of contents stand in order within their bytes, and are no more than these.
+use Rattle.text.specs.declared.stop.Cause.{Cause}
 use Prim.Native.Nat.{ℕ, suc, ◌+◌, ◌≤◌}
 use native.Mathlib.Omega.{arith}
 use mathlib.Core.List.{List}
 use lib.ListN.{length}
-use Rattle.text.specs.Every.{OneOf}
 use Rattle.text.specs.Bytes.{is_blank}
 use Rattle.text.specs.Run.{blanks}
 use Rattle.text.specs.Answer.{◌and◌, must, maybe}
 use Rattle.text.specs.Leaves.{currency, byte, comma, hard_gap}
 use Rattle.text.specs.Accounts.{account}
-use Rattle.text.proofs.Joins.{reading_numbers, required, must_reach}
+use Rattle.text.proofs.Joins.{Listed, required, must_reach}
 use Rattle.text.proofs.Inversions.{must_inv}
 use Rattle.text.proofs.TokenEnds.{run_reach, account_reach, currency_reach, byte_reach, comma_reach, hard_gap_reach}
 use Rattle.amount.specs.Details.{Rows, span, quoted}
-use Rattle.text.specs.Refusals.{required_number}
+use Rattle.text.specs.Refusals.{missing}
 use Rattle.amount.specs.Expression.{expression}
 use Rattle.amount.proofs.ExpressionEnds.{expression_reach}
 use Rattle.amount.proofs.ValueSizes.{read_small}
@@ -28,13 +28,13 @@ module _ (s : List ℕ) where
   N = length s
 
   -- a required gap before rows
-  pub hard_gap_and : {n : ℕ} (w : OneOf reading_numbers n) (k at : ℕ) (f : ℕ → Rows) → at ≤ N → ((g : ℕ) → at + 1 ≤ g → g ≤ N → Fits s k (f g)) → Fits s k (hard_gap n s at and f)
+  pub hard_gap_and : {n : Cause} (w : Listed n) (k at : ℕ) (f : ℕ → Rows) → at ≤ N → ((g : ℕ) → at + 1 ≤ g → g ≤ N → Fits s k (f g)) → Fits s k (hard_gap n s at and f)
   hard_gap_and {n} w k at f h u = bare_and N (at + 1) k (hard_gap n s at) f (hard_gap_reach s at w h) (hard_gap_bare s at n) u
 
   pub hard_account_fits : (at : ℕ) → at ≤ N → Fits s at (hard_account s at)
   unfolding hard_account
   hard_account_fits at h =
-      bare_and N (at + 1) at (must required_number at (account s at)) _ (must_reach N (at + 1) required at _ h (account_reach s at)) (must_bare required_number at _ (account_bare s at)) (λ e p q.
+      bare_and N (at + 1) at (must missing at (account s at)) _ (must_reach N (at + 1) required at _ h (account_reach s at)) (must_bare missing at _ (account_bare s at)) (λ e p q.
       row_fits at e _ span_filled (omega arith))
 
   -- a string whose row is a span
@@ -43,7 +43,7 @@ module _ (s : List ℕ) where
 
   pub hard_string_fits : (at : ℕ) → Fits s at (hard_string s at)
   unfolding hard_string
-  hard_string_fits at = must_fits at required_number at _ (text_fits 34 at (omega arith))
+  hard_string_fits at = must_fits at missing at _ (text_fits 34 at (omega arith))
 
   pub tolerance_fits : (at : ℕ) → at ≤ N → Fits s at (tolerance s at)
   unfolding tolerance
@@ -60,14 +60,14 @@ module _ (s : List ℕ) where
   balance_of_fits at h =
       and_fits N (at + 1) at (hard_account s at) _ (hard_account_reach s at h) (hard_account_fits at h) (λ a p₁ q₁.
       hard_gap_and required a a _ q₁ (λ g p₂ q₂.
-      then_read N (g + 1) a (must required_number g (expression s g)) _ (must_reach N (g + 1) required g _ q₂ (expression_reach s g)) (λ e v x p₃ q₃.
+      then_read N (g + 1) a (must missing g (expression s g)) _ (must_reach N (g + 1) required g _ q₂ (expression_reach s g)) (λ e v x p₃ q₃.
       then_rows _ N e e a (maybe e (tolerance s e)) _ (optional_reach N e _ q₃ (tolerance_reach s e q₃)) (maybe_fits e _ (tolerance_fits e q₃)) (λ t ts p₄ q₄ r₄.
       hard_gap_and required a t _ q₄ (λ c p₅ q₅.
-      bare_and N (c + 1) a (must required_number c (currency s c)) _ (must_reach N (c + 1) required c _ q₅ (currency_reach s c)) (must_bare required_number c _ (currency_bare s c)) (λ d p₆ q₆.
+      bare_and N (c + 1) a (must missing c (currency s c)) _ (must_reach N (c + 1) required c _ q₅ (currency_reach s c)) (must_bare missing c _ (currency_bare s c)) (λ d p₆ q₆.
       to_fits a d _ (
         (
           omega arith,
-          valued_filled (λ z. omega arith) q₅ q₆ (read_small s g e v (must_inv required_number g (expression s g) e v x)),
+          valued_filled (λ z. omega arith) q₅ q₆ (read_small s g e v (must_inv missing g (expression s g) e v x)),
           (placed_wide unflagged unflagged s e t g d ts (omega arith) (omega arith) (omega arith) r₄).0,
         ),
         omega arith,

@@ -1,4 +1,5 @@
 -- The content of the directive of a kind, as it is written.
+use Rattle.text.specs.steps.Told.{Reading}
 use Prim.Native.Nat.{ℕ}
 use mathlib.Core.Path.{◌≡◌}
 use mathlib.Core.List.{List}
@@ -6,11 +7,10 @@ use borrow.Author.Tests.{ne_eqb}
 use Rattle.amount.specs.Amounts.{hard_currency, price_of}
 use Rattle.row.specs.steps.Writing.{Did}
 use Rattle.row.specs.declared.writer.Out.{Out}
-use Rattle.row.specs.declared.writer.Ran.{Ran}
 use Rattle.content.specs.Contents.{hard_account, balance_of, open_of, pad_of, event_of}
 use Rattle.content.specs.steps.Parts.{content_of}
 
-module _ (base k : ℕ) (s : List ℕ) (at : ℕ) (o : Out) (t u : List ℕ) (r : Ran) where
+module _ (base k : ℕ) (s : List ℕ) (at : ℕ) (o : Out) (t u : List ℕ) (r : Reading Out) where
   pub kind_price : k ≡ 7 → Did base (price_of s at) o t u r → Did base (content_of k s at) o t u r
   unfolding content_of
   kind_price q d = rw q d

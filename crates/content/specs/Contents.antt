@@ -5,16 +5,16 @@ use Rattle.text.specs.Run.{blanks}
 use Rattle.text.specs.Answer.{To, ◌then◌, ◌and◌, must, maybe, many}
 use Rattle.text.specs.Leaves.{gap, currency, byte, comma, hard_gap}
 use Rattle.text.specs.Accounts.{account}
-use Rattle.text.specs.Refusals.{required_number}
+use Rattle.text.specs.Refusals.{missing}
 use Rattle.amount.specs.Kinds.{account_kind, amount_kind, tolerance_kind, currency_kind, booking_kind, string_kind}
 use Rattle.amount.specs.Details.{Rows, span, valued, quoted}
 use Rattle.amount.specs.Expression.{expression}
 
 unfoldable pub hard_account : List ℕ → ℕ → Rows
-hard_account s at = must required_number at (account s at) and λ e. To e (span account_kind at e ∷ [])
+hard_account s at = must missing at (account s at) and λ e. To e (span account_kind at e ∷ [])
 
 unfoldable pub hard_string : List ℕ → ℕ → Rows
-hard_string s at = must required_number at (quoted (span string_kind) s at)
+hard_string s at = must missing at (quoted (span string_kind) s at)
 
 -- blanks `~` blanks expression
 unfoldable pub tolerance : List ℕ → ℕ → Rows
@@ -23,9 +23,9 @@ tolerance s at = byte (code "~") s (blanks s at) and λ i. let b = blanks s i in
 -- Balance: account, gap, expression, optionally a tolerance, gap, currency. The amount names that currency.
 unfoldable pub balance_of : List ℕ → ℕ → Rows
 balance_of s at =
-    hard_account s at and λ a. hard_gap required_number s a and λ g. must required_number g (expression s g) then λ e v.
-    maybe e (tolerance s e) then λ t ts. hard_gap required_number s t and λ c.
-    must required_number c (currency s c) and λ d. To d (valued amount_kind g e c d v ∷ ts)
+    hard_account s at and λ a. hard_gap missing s a and λ g. must missing g (expression s g) then λ e v.
+    maybe e (tolerance s e) then λ t ts. hard_gap missing s t and λ c.
+    must missing c (currency s c) and λ d. To d (valued amount_kind g e c d v ∷ ts)
 
 -- currencies joined by commas with blanks around
 unfoldable pub one_currency : List ℕ → ℕ → Rows
@@ -46,8 +46,8 @@ open_of s at = hard_account s at and λ a. maybe a (gap s a and λ g. currencies
 
 -- Pad: account, gap, account.
 unfoldable pub pad_of : List ℕ → ℕ → Rows
-pad_of s at = hard_account s at and λ a. hard_gap required_number s a and λ g. hard_account s g
+pad_of s at = hard_account s at and λ a. hard_gap missing s a and λ g. hard_account s g
 
 -- Event (H): string, gap, string.
 unfoldable pub event_of : List ℕ → ℕ → Rows
-event_of s at = hard_string s at and λ a. hard_gap required_number s a and λ g. hard_string s g
+event_of s at = hard_string s at and λ a. hard_gap missing s a and λ g. hard_string s g

@@ -1,4 +1,7 @@
 -- M-106: what the exact form knows of a product or a quotient, the rounding form knows too.
+use Rattle.decimal.specs.Faults.{Value}
+use Rattle.decimal.specs.declared.Fault.{Fault}
+use Rattle.std.specs.Prelude.{Err, Ok}
 use Prim.Native.Nat.{ℕ, suc, ◌*◌, ◌/◌, ◌%◌, ◌≤◌}
 use mathlib.Core.Path.{◌≡◌, refl, sym, ap, ◌∙◌}
 use mathlib.Core.Bool.{Bool, true, false, cond, ◌||◌}
@@ -9,8 +12,6 @@ use lib.IntN.{ℤ, pos, negsuc}
 use borrow.Author.Tests.{lt-ltb, eqb-true, eqb-false}
 use Rattle.decimal.specs.declared.Form.TheVariants.{Exact, Rounding}
 use Rattle.decimal.specs.declared.Decimal.{Decimal}
-use Rattle.decimal.specs.declared.Value.{Value}
-use Rattle.decimal.specs.declared.Value.TheVariants.{Known, Refused}
 use Rattle.decimal.specs.Rounding.{rounded_of, nearest_size}
 use Rattle.decimal.specs.Exact.{limit, exact, value_in, product, quotient, Knows}
 use Rattle.decimal.specs.steps.Judged.{sized_in}
@@ -18,7 +19,7 @@ use Rattle.decimal.proofs.Laws.{judged_exact, ones_is}
 use Rattle.decimal.proofs.Whole.{value_sized}
 
 -- what is known has no rest
-no_rest : (m : Bool) (n d : ℕ) (a : Decimal) (b : Bool) → ltb (limit * d) n ≡ b → (c : Bool) → eqb (n % d) 0 ≡ c → exact m n d ≡ Known a → n % d ≡ 0
+no_rest : (m : Bool) (n d : ℕ) (a : Decimal) (b : Bool) → ltb (limit * d) n ≡ b → (c : Bool) → eqb (n % d) 0 ≡ c → exact m n d ≡ Ok a → n % d ≡ 0
 unfolding exact
 no_rest m n d a true x c y e = cc
 no_rest m n d a false x true y e = eqb-true _ _ y
@@ -44,16 +45,16 @@ value_kept (pos n) d p a e = value_sized Rounding false n d ∙ sized_kept false
 value_kept (negsuc n) d p a e = value_sized Rounding true (suc n) d ∙ sized_kept true (suc n) d p a (sym (value_sized Exact true (suc n) d) ∙ e)
 
 -- behind a test that refuses
-unless_kept : (b : Bool) (k : ℕ) (v w : Value) → (b ≡ false → Knows v w) → Knows (cond b (Refused k) v) (cond b (Refused k) w)
+unless_kept : (b : Bool) (k : Fault) (v w : Value) → (b ≡ false → Knows v w) → Knows (cond b (Err k) v) (cond b (Err k) w)
 unless_kept true k v w h a e = e
 unless_kept false k v w h a e = h refl a e
 
 pub product_kept : (a b : Decimal) → Knows (product Exact a b) (product Rounding a b)
 unfolding product
-product_kept a b = unless_kept (ltb limit a.size || ltb limit b.size) 6 _ _ (λ _. value_kept _ 1000000 (omega arith))
+product_kept a b = unless_kept (ltb limit a.size || ltb limit b.size) Fault.TooLarge _ _ (λ _. value_kept _ 1000000 (omega arith))
 
 pub quotient_kept : (a b : Decimal) → Knows (quotient Exact a b) (quotient Rounding a b)
 unfolding quotient
 quotient_kept a b =
-    unless_kept (ltb limit a.size || ltb limit b.size) 6 _ _
-    (λ _. unless_kept (eqb b.size 0) 8 _ _ (λ f. let n = eqb-false b.size 0 f in value_kept _ b.size (omega arith)))
+    unless_kept (ltb limit a.size || ltb limit b.size) Fault.TooLarge _ _
+    (λ _. unless_kept (eqb b.size 0) Fault.ZeroDivisor _ _ (λ f. let n = eqb-false b.size 0 f in value_kept _ b.size (omega arith)))

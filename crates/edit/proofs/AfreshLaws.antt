@@ -1,5 +1,7 @@
 -- The call on a ledger's own rows does what recovering reading of the new ledger does; and so for any sequence of
 -- calls.
+use Rattle.text.specs.Refusals.{refused_with}
+use Rattle.std.specs.Prelude.{Err, Ok}
 use Prim.Native.Nat.{ℕ, ◌+◌, ◌*◌, ◌-◌, ◌≤◌}
 use native.Mathlib.Omega.{arith}
 use mathlib.Core.Path.{◌≡◌, refl, sym, ◌∙◌, ap}
@@ -15,7 +17,6 @@ use Rattle.row.specs.declared.table.Row.{Row}
 use Rattle.row.specs.Row.{width, rows_bytes, rows_in, room}
 use Rattle.ledger.specs.Plain.{Reading, accepted, denied}
 use Rattle.ledger.specs.Answers.{answer, left}
-use Rattle.ledger.specs.declared.read.Answer.{Answer}
 use Rattle.ledger.specs.declared.scan.Profile.TheVariants.{Plain}
 use Rattle.recovery.specs.Recovering.{recover_from, recovered}
 use Rattle.row.proofs.PourLaws.{length_rows_bytes}
@@ -88,7 +89,7 @@ afresh_call s k u a e y R g = (same_answer s k u a e y R g, same_left s k u a e 
 
 -- ---- a call that is accepted is an edit
 
-pub some_rows : (r : Reading) (room n : ℕ) → answer r room ≡ Answer.Rows n → (rs : List Row) × (r ≡ accepted rs)
+pub some_rows : (r : Reading) (room n : ℕ) → answer r room ≡ Ok n → (rs : List Row) × (r ≡ accepted rs)
 unfolding answer
 some_rows (accepted rs) room n e = (rs, refl)
 some_rows (denied k p) room n e = absurd (let w : ◌≡◌ {A = ℕ} 0 1 = cc in omega arith)
@@ -121,12 +122,12 @@ module _ (s : List ℕ) (k : ℕ) (u : List ℕ) (a e : ℕ) (y : List ℕ) wher
 -- ---- any sequence of calls
 
 -- a table that recovering reading has left, with its n rows
-pub rows_of : (z : List ℕ) (n : ℕ) (t v : List ℕ) (rs : List Row) → recovered z ≡ accepted rs → answer (accepted rs) (room t) ≡ Answer.Rows n
+pub rows_of : (z : List ℕ) (n : ℕ) (t v : List ℕ) (rs : List Row) → recovered z ≡ accepted rs → answer (accepted rs) (room t) ≡ Ok n
     → v ≡ left (accepted rs) t → RowsOf z n v
 unfolding answer left
 rows_of z n t v rs is e ev = go (leb (length rs) (room t)) e ev
   where
-    go : (b : Bool) → cond b (Answer.Rows (length rs)) (Answer.Refusal 9 0 (length rs)) ≡ Answer.Rows n
+    go : (b : Bool) → cond b (Ok (length rs)) (Err (refused_with 9 0 (length rs))) ≡ Ok n
         → v ≡ cond b (rows_bytes rs ++ drop (length rs * width) t) t → RowsOf z n v
     go true e ev =
         let c : n ≡ length rs = cc in
@@ -140,7 +141,7 @@ rows_of z n t v rs is e ev = go (leb (length rs) (room t)) e ev
 
 -- so the table that a call leaves has the new ledger's rows
 rows_left : (s : List ℕ) (k : ℕ) (u : List ℕ) (a e : ℕ) (y t : List ℕ) (n : ℕ) → RowsOf s k u
-    → answer (editing s u k a e y) (room t) ≡ Answer.Rows n → RowsOf (edited s a e y) n (left (editing s u k a e y) t)
+    → answer (editing s u k a e y) (room t) ≡ Ok n → RowsOf (edited s a e y) n (left (editing s u k a e y) t)
 rows_left s k u a e y t n R q =
     let some = some_rows (editing s u k a e y) (room t) n q in
     let g = is_edit s k u a e y some.0 some.1 in

@@ -1,4 +1,7 @@
 -- The rows of the new bytes: counted, and put at their place.
+use Rattle.text.specs.declared.stop.Refused.{Refused}
+use Rattle.text.specs.Refusals.{refused_with}
+use Rattle.std.specs.Prelude.{Err, Ok, Result}
 use Prim.Native.Nat.{ℕ, ◌+◌, ◌*◌, ◌≤◌}
 use native.Mathlib.Nat.{add-zero}
 use native.Mathlib.Omega.{arith}
@@ -16,7 +19,6 @@ use Rattle.row.specs.steps.Pouring.{pour}
 use Rattle.row.proofs.PourLaws.{length_row_bytes, length_pour, pour_all}
 use Rattle.ledger.specs.Plain.{Reading, accepted, denied}
 use Rattle.ledger.specs.Answers.{answer, left}
-use Rattle.ledger.specs.declared.read.Answer.{Answer}
 use Rattle.ledger.specs.declared.scan.Profile.TheVariants.{Plain}
 use Rattle.recovery.specs.Recovering.{recover_from, recovered}
 use Rattle.recovery.proofs.BlocksLaws.{recover_kept}
@@ -34,30 +36,30 @@ module _ (y : List ℕ) (h : length y ≤ size_limit) where
   pub few : length rs ≤ size_limit
   few = omega (arith, (recover_kept Plain (length y) 0 0 y).few)
 
-  answer_is : (room : ℕ) → answer (recovered y) room ≡ cond (leb (length rs) room) (Answer.Rows (length rs)) (Answer.Refusal 9 0 (length rs))
+  answer_is : (room : ℕ) → answer (recovered y) room ≡ cond (leb (length rs) room) (Ok (length rs)) (Err (refused_with 9 0 (length rs)))
   unfolding answer
   answer_is room = rw (recovered_is Plain y h)
 
-  module _ (r : Answer) (room : ℕ) (er : r ≡ answer (recovered y) room) (n : ℕ) where
-    pub count_rows : r ≡ Answer.Rows n → n ≡ length rs
-    count_rows e = go (leb (length rs) room) (sym e ∙ er ∙ answer_is room)
+  module _ (r : Result ℕ Refused) (room : ℕ) (er : r ≡ answer (recovered y) room) where
+    pub count_rows : (n : ℕ) → r ≡ Ok n → n ≡ length rs
+    count_rows n e = go (leb (length rs) room) (sym e ∙ er ∙ answer_is room)
       where
-        go : (b : Bool) → Answer.Rows n ≡ cond b (Answer.Rows (length rs)) (Answer.Refusal 9 0 (length rs)) → n ≡ length rs
+        go : (b : Bool) → Ok n ≡ cond b (Ok (length rs)) (Err (refused_with 9 0 (length rs))) → n ≡ length rs
         go true z = cc
         go false z = absurd (let w : ◌≡◌ {A = ℕ} 0 1 = cc in omega arith)
 
-    pub count_need : (f p : ℕ) → r ≡ Answer.Refusal f p n → n ≡ length rs
-    count_need f p e = go (leb (length rs) room) (sym e ∙ er ∙ answer_is room)
+    pub count_need : (x : Refused) → r ≡ Err x → x.count ≡ length rs
+    count_need x e = go (leb (length rs) room) (sym e ∙ er ∙ answer_is room)
       where
-        go : (b : Bool) → Answer.Refusal f p n ≡ cond b (Answer.Rows (length rs)) (Answer.Refusal 9 0 (length rs)) → n ≡ length rs
+        go : (b : Bool) → Err x ≡ cond b (Ok (length rs)) (Err (refused_with 9 0 (length rs))) → x.count ≡ length rs
         go true z = absurd (let w : ◌≡◌ {A = ℕ} 0 1 = cc in omega arith)
-        go false z = cc
+        go false z = let w : x ≡ refused_with 9 0 (length rs) = cc in ap (λ (y : Refused). y.count) w
 
-    pub rows_low : r ≡ Answer.Rows n → n ≤ size_limit
-    rows_low e = omega (arith, count_rows e, few)
+    pub rows_low : (n : ℕ) → r ≡ Ok n → n ≤ size_limit
+    rows_low n e = omega (arith, count_rows n e, few)
 
-    pub need_low : (f p : ℕ) → r ≡ Answer.Refusal f p n → n ≤ size_limit
-    need_low f p e = omega (arith, count_need f p e, few)
+    pub need_low : (x : Refused) → r ≡ Err x → x.count ≤ size_limit
+    need_low x e = omega (arith, count_need x e, few)
 
   -- at a place, with so many line feeds before
   rows_at : (base lines : ℕ) → recover_from (length y) base lines y ≡ map (move_all base lines) rs

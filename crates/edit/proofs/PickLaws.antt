@@ -1,15 +1,13 @@
 -- Rows that are picked, from what the code knows.
-use Prim.Native.Nat.{ℕ, zero, suc, ◌+◌, ◌*◌, ◌-◌, ◌≤◌, ◌<◌, ◌^◌}
+use Prim.Native.Nat.{ℕ, zero, suc, ◌+◌, ◌*◌, ◌-◌, ◌≤◌, ◌<◌}
 use native.Mathlib.Omega.{arith}
 use native.Mathlib.Nat.{add-zero}
 use mathlib.Core.Path.{◌≡◌, refl, sym, ◌∙◌, ap}
 use mathlib.Core.Bool.{Bool, true, false, cond}
 use mathlib.Core.List.{List, [], ◌∷◌, ◌++◌}
 use lib.Dec.{ltb, leb}
-use lib.ListN.{length, take, drop, length-append, length-drop}
+use lib.ListN.{length, take, drop, length-append}
 use lib.Seq.{drop-drop}
-use mir.Syntax.{w64}
-use mir.Val.{Fits}
 use Rattle.row.specs.declared.table.Row.{Row}
 use Rattle.row.specs.Row.{width, row_in}
 use Rattle.row.specs.steps.Pouring.{pour, pour_at}
@@ -82,9 +80,6 @@ module _ (p : Pick) (t : List ℕ) (left i : ℕ) (h : 0 < left) where
       ∙ ap (λ (z : List ℕ). picked p (row_in (drop i t)) ++ picked_rows p (left - 1) z) (drop-drop width i t)
       ∙ ap (λ (z : List ℕ). picked p (row_in z) ++ picked_rows p (left - 1) (drop (i + width) t)) (sym (rest_of t i))
 
-  left_row : i + left * width ≤ length t → width ≤ length (take (length t - i) (drop i t))
-  left_row m = rw (rest_of t i, length-drop) (omega arith)
-
 none_left : (p : Pick) (left : ℕ) (t : List ℕ) → left ≤ 0 → picked_rows p left t ≡ []
 unfolding picked_rows
 none_left p zero t h = refl
@@ -113,15 +108,6 @@ module _ (p : Pick) (k : ℕ) (t : List ℕ) (left i n : ℕ) (C : Counting p k 
   counted_all h = omega (arith, C.count, ap length (none_left p left (drop i t) h))
 
   module _ (h : 0 < left) where
-    pub counting_within : i ≤ length t
-    counting_within = omega (arith, C.inside)
-
-    pub counting_row : width ≤ length (take (length t - i) (drop i t))
-    counting_row = left_row p t left i h C.inside
-
-    pub counting_next : length t < 2 ^ 64 → Fits w64 (i + width)
-    counting_next l = record { fits = omega (arith, C.inside) }
-
     module _ (s m : ℕ) (es : s ≡ (row_in (take (length t - i) (drop i t))).start) (em : m ≡ cond (picks p s) 1 0) where
       pub counting_on : Counting p k t (left - 1) (i + width) (n + m)
       counting_on =
@@ -137,10 +123,16 @@ module _ (p : Pick) (k : ℕ) (t : List ℕ) (left i n : ℕ) (C : Counting p k 
           one true e = omega arith
           one false e = omega arith
 
-      pub counting_fits : length t < 2 ^ 64 → Fits w64 (n + m)
-      counting_fits l = record { fits = omega (arith, counting_on.few) }
+-- the same row by row: so many rows were counted
+pub counting_past : (p : Pick) (k : ℕ) (t : List ℕ) (row n : ℕ) → Counting p k t (k - row) (row * width) n → row < k → (s m : ℕ)
+    → s ≡ (row_in (take (length t - row * width) (drop (row * width) t))).start → m ≡ cond (picks p s) 1 0
+    → Counting p k t (k - (row + 1)) ((row + 1) * width) (n + m)
+counting_past p k t row n C h s m es em =
+    let a : k - row - 1 ≡ k - (row + 1) = omega arith in
+    let b : row * width + width ≡ (row + 1) * width = omega arith in
+    rw (a, b) at (counting_on p k t (k - row) (row * width) n C (omega arith) s m es em)
 
-pub ruleset counting_laws = (counting_start, counted_all, counting_within, counting_row, counting_next, counting_on, counting_fits)
+pub ruleset counting_laws = (counting_start, counted_all, counting_past)
 
 -- ---- rows that are put to the front of a table, which was u
 
@@ -159,18 +151,6 @@ module _ (p : Pick) (k : ℕ) (t u : List ℕ) (left i n : ℕ) (z : List ℕ) (
   putting_end h = sym (C.rows ∙ ap (λ (rs : List Row). pour_at n rs z) (none_left p left (drop i t) h) ∙ pour_at_none n z)
 
   module _ (h : 0 < left) where
-    pub putting_within : i ≤ length t
-    putting_within = omega (arith, C.inside)
-
-    pub putting_row : Given p k t → Given p 1 (take (length t - i) (drop i t))
-    putting_row G = record { there = omega (arith, left_row p t left i h C.inside); small = G.small }
-
-    pub putting_next : length t < 2 ^ 64 → Fits w64 (i + width)
-    putting_next l = record { fits = omega (arith, C.inside) }
-
-    pub putting_low : length t < 2 ^ 64 → n < 2 ^ 63
-    putting_low l = omega (arith, C.few)
-
     pub putting_on : (m : ℕ) (v : List ℕ) → m ≡ n + length (picked p (row_in (take (length t - i) (drop i t))))
         → v ≡ pour_at n (picked p (row_in (take (length t - i) (drop i t)))) z → Putting p k t u (left - 1) (i + width) m v
     putting_on m v em ev =
@@ -192,4 +172,14 @@ module _ (p : Pick) (k : ℕ) (t u : List ℕ) (left i n : ℕ) (z : List ℕ) (
         low true = omega arith
         low false = omega arith
 
-pub ruleset putting_laws = (putting_start, putting_end, putting_within, putting_row, putting_next, putting_low, putting_on)
+-- the same row by row: so many rows were looked at
+pub putting_past : (p : Pick) (k : ℕ) (t u : List ℕ) (row n : ℕ) (z : List ℕ) → Putting p k t u (k - row) (row * width) n z → row < k → (m : ℕ) (v : List ℕ)
+    → m ≡ n + length (picked p (row_in (take (length t - row * width) (drop (row * width) t))))
+    → v ≡ pour_at n (picked p (row_in (take (length t - row * width) (drop (row * width) t)))) z
+    → Putting p k t u (k - (row + 1)) ((row + 1) * width) m v
+putting_past p k t u row n z C h m v em ev =
+    let a : k - row - 1 ≡ k - (row + 1) = omega arith in
+    let b : row * width + width ≡ (row + 1) * width = omega arith in
+    rw (a, b) at (putting_on p k t u (k - row) (row * width) n z C (omega arith) m v em ev)
+
+pub ruleset putting_laws = (putting_start, putting_end, putting_past)

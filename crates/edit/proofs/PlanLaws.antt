@@ -1,4 +1,8 @@
 -- What the answer is made of, and that it is what the call is to answer.
+use Rattle.text.specs.declared.stop.Refused.{Refused}
+use Rattle.ledger.proofs.ReadLaws.{too_short_by}
+use Rattle.text.specs.Refusals.{refused_with}
+use Rattle.std.specs.Prelude.{Err, Ok, Result}
 use Prim.Native.Nat.{ℕ, zero, suc, ◌+◌, ◌*◌, ◌-◌, ◌≤◌, ◌<◌}
 use native.Mathlib.Omega.{arith}
 use mathlib.Core.Path.{◌≡◌, refl, sym, ◌∙◌, ap}
@@ -15,13 +19,12 @@ use Rattle.row.proofs.LineLaws.{feeds_le}
 use Rattle.row.specs.Field.{field_limit}
 use Rattle.ledger.specs.Plain.{accepted}
 use Rattle.ledger.specs.Answers.{answer, left}
-use Rattle.ledger.specs.declared.read.Answer.{Answer}
 use Rattle.edit.specs.Edits.{such, before, from, edit_rows, editing}
 use Rattle.edit.specs.declared.moves.By.{By}
 use Rattle.edit.specs.declared.pick.Pick.{Pick}
 use Rattle.edit.specs.declared.reread.Plan.{Plan}
 use Rattle.edit.specs.declared.reread.Counts.{Counts}
-use Rattle.edit.specs.steps.Moving.{shift_by, picks, picked, picked_rows, Within, by, by_of, plan_of, plan_rows, Ready, Counted, refusal}
+use Rattle.edit.specs.steps.Moving.{shift_by, picks, picked, picked_rows, Within, by, by_of, plan_of, plan_rows, Ready, Counted, allowed}
 use Rattle.edit.proofs.JudgeLaws.{good_from, bad_answer, bad_left}
 use Rattle.edit.proofs.PartsLaws.{plan_length, sum_two, sum_three}
 
@@ -92,7 +95,7 @@ module _ (s t : List ℕ) (k a e : ℕ) (y : List ℕ) where
         behind_rows_lem e k (by_of s a e y) t,
       )
 
-  module _ (f : ℕ) (ef : f ≡ refusal s t k a e y) (z : f ≡ 0) where
+  module _ (f : Result Unit Refused) (ef : f ≡ allowed s t k a e y) (z : f ≡ Ok tt) where
     pub good_within : Within s a e y
     good_within = (good_from s t k a e y f ef z).within
 
@@ -135,9 +138,9 @@ module _ (s t : List ℕ) (k a e : ℕ) (y : List ℕ) where
           short : leb (length E) (room u) ≡ false
           short = lt-leb (length E) (room u) (omega (arith, count_is))
 
-          pub short_answer : Answer.Refusal 9 0 (c.before + c.new + c.behind) ≡ answer (editing s t k a e y) (room u)
+          pub short_answer : Err (refused_with 9 0 (c.before + c.new + c.behind)) ≡ answer (editing s t k a e y) (room u)
           unfolding answer
-          short_answer = ap (Answer.Refusal 9 0) count_is ∙ rw (rows_are, short)
+          short_answer = ap (λ (n : ℕ). too_short_by n) count_is ∙ rw (rows_are, short)
 
           pub short_left : u ≡ left (editing s t k a e y) u
           unfolding left
@@ -150,9 +153,9 @@ module _ (s t : List ℕ) (k a e : ℕ) (y : List ℕ) where
           pub full_room : (c.before + c.new + c.behind) * width ≤ length u
           full_room = omega arith
 
-          pub full_answer : Answer.Rows (c.before + c.new + c.behind) ≡ answer (editing s t k a e y) (room u)
+          pub full_answer : Ok (c.before + c.new + c.behind) ≡ answer (editing s t k a e y) (room u)
           unfolding answer
-          full_answer = ap Answer.Rows count_is ∙ rw (rows_are, full)
+          full_answer = ap Ok count_is ∙ rw (rows_are, full)
 
           pub full_left : (v : List ℕ) → v ≡ pour (plan_rows p t y) u → v ≡ left (editing s t k a e y) u
           unfolding left

@@ -1,12 +1,11 @@
 -- M-109's claims: given the old ledger's rows, an edit does what recovering reading of the new ledger does, and so does
 -- any sequence of edits. Rows before the block keep their bytes.
-use Rattle.std.specs.Prelude.{ℕ, ◌*◌, ◌<◌, ◌≤◌, ◌≡◌, true, List, [], ◌∷◌, length, get_or, take}
+use Rattle.std.specs.Prelude.{ℕ, ◌*◌, ◌<◌, ◌≤◌, ◌≡◌, true, List, [], ◌∷◌, length, get_or, take, Ok}
 use Rattle.text.specs.Permitted.{size_limit}
 use Rattle.row.specs.declared.table.Row.{Row}
 use Rattle.row.specs.Row.{width, row_bytes, rows_bytes, row_in, rows_in, room}
 use Rattle.ledger.specs.Plain.{accepted}
 use Rattle.ledger.specs.Answers.{answer, left}
-use Rattle.ledger.specs.declared.read.Answer.{Answer}
 use Rattle.recovery.specs.Recovering.{recovered}
 use Rattle.edit.specs.Edits.{is_block, is_new, edited, before, edit_rows, editing}
 
@@ -68,7 +67,7 @@ abbrev pub Accepted : List Call → List ℕ → ℕ → List ℕ → List ℕ �
 Accepted [] s k t z m v = (z ≡ s) × (m ≡ k) × (v ≡ t)
 Accepted (c ∷ cs) s k t z m v =
     let call = editing s t k c.start c.end c.new in
-    (n : ℕ) × (answer call (room c.table) ≡ Answer.Rows n)
+    (n : ℕ) × (answer call (room c.table) ≡ Ok n)
     × Accepted cs (edited s c.start c.end c.new) n (left call c.table) z m v
 
 -- then that table has the rows of recovering reading of that ledger

@@ -58,11 +58,8 @@ pub fn move_rows(t: &mut [u8], n: usize, b: By)
     requires { (n * width ≤ length t.old) × Small b }
     ensures { t.new ≡ moved_in b n t.old }
 {
-    let mut i = 0;
-    while i < n {
-        let at = i * WIDTH;
-        let r = table::row_in(&t[at..]);
+    for i in 0..n {
+        let r = table::row_in(&t[i * WIDTH..]);
         table::put_row(t, i, shift_row(r, b));
-        i += 1;
     }
 }

@@ -38,13 +38,9 @@ pub fn count(t: &[u8], k: usize, p: Pick) -> usize
     requires { Given p k t.now }
     ensures { result ≡ length (picked_rows p k t.now) }
 {
-    let mut left = k;
-    let mut i = 0;
     let mut n = 0;
-    while 0 < left {
-        n += one_picked(p, table::start_in(&t[i..]));
-        i += WIDTH;
-        left -= 1;
+    for row in 0..k {
+        n += one_picked(p, table::start_in(&t[row * WIDTH..]));
     }
     n
 }
@@ -78,12 +74,8 @@ pub fn put(t: &[u8], k: usize, p: Pick, table: &mut [u8])
     requires { Given p k t.now }
     ensures { table.new ≡ pour (picked_rows p k t.now) table.old }
 {
-    let mut left = k;
-    let mut i = 0;
     let mut n = 0;
-    while 0 < left {
-        n = put_one(&t[i..], p, table, n);
-        i += WIDTH;
-        left -= 1;
+    for row in 0..k {
+        n = put_one(&t[row * WIDTH..], p, table, n);
     }
 }

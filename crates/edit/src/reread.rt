@@ -6,16 +6,17 @@ ghost use Rattle.row.specs.steps.Pouring.{pour};
 ghost use Rattle.ledger.specs.Answers.{answer, left};
 ghost use Rattle.recovery.specs.Recovering.{recover_from};
 ghost use Rattle.edit.specs.Edits.{grows, editing};
-ghost use Rattle.edit.specs.steps.Moving.{Within, by_of, plan_of, plan_rows, Ready, Fresh, Counted, refusal};
+ghost use Rattle.edit.specs.steps.Moving.{Within, by_of, plan_of, plan_rows, Ready, Fresh, Counted, allowed};
 
 use crate::moves::By;
 use crate::pick::Pick;
 use crate::{moves, pick, span};
-use ledger::read::Answer;
 use recovery::recover;
 use row::lines;
 use row::table::{FIELD, WIDTH};
 use text::permitted::SIZE;
+use text::stop;
+use text::stop::Refused;
 
 // What the answer is made of: the picked ones of the given rows before the block, the rows of the new bytes, at the
 // block's place and with so many line feeds before it, and the picked ones of the rest behind it.
@@ -50,24 +51,24 @@ fn is_large(old: &[u8], a: usize, e: usize, y: &[u8]) -> bool
     false
 }
 
-// The number of the refusal before 9, or 0.
-fn refused(old: &[u8], rows: &[u8], k: usize, a: usize, e: usize, y: &[u8]) -> usize
-    ensures { result ≡ refusal old.now rows.now k a e y.now }
+// The refusals before 9: a ledger is too large, or the block, the row count or the new bytes are not as said.
+fn allowed(old: &[u8], rows: &[u8], k: usize, a: usize, e: usize, y: &[u8]) -> Result<(), Refused>
+    ensures { result ≡ allowed old.now rows.now k a e y.now }
 {
     if SIZE < old.len() {
-        return 1;
+        return Err(stop::refused_at(stop::TOO_LONG, 0));
     }
     if is_large(old, a, e, y) {
-        return 1;
+        return Err(stop::refused_at(stop::TOO_LONG, 0));
     }
     if span::is_block(old, a, e) {
         if k <= rows.len() / WIDTH {
             if span::is_new(old, a, e, y) {
-                return 0;
+                return Ok(());
             }
         }
     }
-    10
+    Err(stop::refused_at(stop::NOT_VALID, 0))
 }
 
 // How far the rows behind the block are moved.
@@ -123,14 +124,9 @@ fn new_count(y: &[u8]) -> usize
     ensures { (result ≡ length (recover_from (length y.now) 0 0 y.now)) × (result ≤ size_limit) }
 {
     let mut none = [0u8; 1];
-    let a = recover::recover(y, &mut none);
-    match a {
-        Answer::Rows(n) => n,
-        Answer::Refusal {
-            number: _,
-            place: _,
-            count,
-        } => count,
+    match recover::recover(y, &mut none) {
+        Ok(n) => n,
+        Err(refused) => refused.count,
     }
 }
 
@@ -151,7 +147,7 @@ fn put_new(y: &[u8], n: usize, base: usize, feeds: usize, part: &mut [u8])
     requires { Fresh y.now n base feeds part.old }
     ensures { part.new ≡ pour (recover_from (length y.now) base feeds y.now) part.old }
 {
-    recover::recover(y, part);
+    let _ = recover::recover(y, part);
     moves::move_rows(
         part,
         n,
@@ -184,28 +180,21 @@ pub fn edit(
     end: usize,
     new: &[u8],
     table: &mut [u8],
-) -> Answer
+) -> Result<usize, Refused>
     ensures answer { result ≡ answer (editing old.now rows.now k start end new.now) (room table.old) }
     ensures rows { table.new ≡ left (editing old.now rows.now k start end new.now) table.old }
 {
-    let number = refused(old, rows, k, start, end, new);
-    if number == 0 {
-        let p = plan_of(old, k, start, end, new);
-        let c = count_all(rows, p, new);
-        let n = c.before + c.new + c.behind;
-        if table.len() / WIDTH < n {
-            return Answer::Refusal {
-                number: 9,
-                place: 0,
-                count: n,
-            };
-        }
-        put_all(rows, p, new, c, table);
-        return Answer::Rows(n);
+    allowed(old, rows, k, start, end, new)?;
+    let p = plan_of(old, k, start, end, new);
+    let c = count_all(rows, p, new);
+    let n = c.before + c.new + c.behind;
+    if table.len() / WIDTH < n {
+        return Err(Refused {
+            number: stop::TOO_SHORT,
+            place: 0,
+            count: n,
+        });
     }
-    Answer::Refusal {
-        number,
-        place: 0,
-        count: 0,
-    }
+    put_all(rows, p, new, c, table);
+    Ok(n)
 }

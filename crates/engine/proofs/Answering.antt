@@ -1,4 +1,8 @@
 -- The answers of the engine's small functions, each from what the code knows where it gives it.
+use Rattle.text.specs.steps.Told.{Reading}
+use Rattle.text.specs.declared.stop.Stop.{Stop}
+use Rattle.std.specs.Prelude.{Err, Ok}
+use Rattle.decimal.specs.Faults.{Value}
 use Prim.Native.Nat.{ℕ, ◌+◌, ◌^◌, ◌<◌}
 use mathlib.Core.Path.{◌≡◌, refl, sym, ap}
 use mathlib.Core.Bool.{Bool, true, false, cond, ◌||◌}
@@ -7,13 +11,11 @@ use lib.ListN.{get_or, length}
 use borrow.Author.Tests.{ne_eqb}
 use mir.Syntax.{w64}
 use mir.Val.{Fits}
-use Rattle.decimal.specs.declared.Value.{Value}
 use Rattle.text.specs.Run.{blanks}
 use Rattle.amount.specs.Literal.{literal}
 use Rattle.amount.specs.Expression.{Arithmetic, negated_value}
 use Rattle.amount.specs.steps.Answers.{answer_of, operator_of}
-use Rattle.amount.specs.declared.expression.Answer.{Answer}
-use Rattle.amount.proofs.Forms.{was_read, was_miss, was_deep, byte_fits, operator_fits}
+use Rattle.amount.proofs.Forms.{was_read, was_miss, was_hard, byte_fits, operator_fits}
 use Rattle.engine.specs.declared.Pending.{Pending}
 use Rattle.engine.specs.declared.Pending.TheVariants.{Nothing, With}
 use Rattle.engine.specs.declared.Frame.{Frame}
@@ -50,15 +52,15 @@ module _ (calc : Arithmetic) (f : Frame) (v : Value) where
 pub ruleset after_laws = (totalled, after_times, after_plus)
 
 module _ (calc : Arithmetic) (f : Frame) where
-  pub fall_product : (op : ℕ) (v r : Value) → f.product ≡ With op v → r ≡ joined calc f.sum v → Answer.Read f.end r ≡ answer_of (fallback calc f)
+  pub fall_product : (op : ℕ) (v r : Value) → f.product ≡ With op v → r ≡ joined calc f.sum v → Ok (f.end, r) ≡ answer_of (fallback calc f)
   unfolding answer_of fallback falls_to
   fall_product op v r e q = rw (e, q)
 
-  pub fall_sum : (op : ℕ) (u : Value) → f.product ≡ Nothing → f.sum ≡ With op u → Answer.Read f.end u ≡ answer_of (fallback calc f)
+  pub fall_sum : (op : ℕ) (u : Value) → f.product ≡ Nothing → f.sum ≡ With op u → Ok (f.end, u) ≡ answer_of (fallback calc f)
   unfolding answer_of fallback falls_to
   fall_sum op u e q = rw (e, q)
 
-  pub fall_none : f.product ≡ Nothing → f.sum ≡ Nothing → Answer.Miss ≡ answer_of (fallback calc f)
+  pub fall_none : f.product ≡ Nothing → f.sum ≡ Nothing → (Err Stop.Miss) ≡ answer_of (fallback calc f)
   unfolding answer_of fallback falls_to
   fall_none e q = rw (e, q)
 
@@ -111,32 +113,26 @@ module _ (s : List ℕ) (at b : ℕ) (p : b ≡ get_or s at 0) where
 pub ruleset open_laws = (byte_fits, opens, opens_not, begins_minus, begins_other)
 
 -- r is the answer of the literal
-module _ (calc : Arithmetic) (s : List ℕ) (at : ℕ) (r : Answer) (p : r ≡ answer_of (literal s at)) (o : Next) where
-  pub starts_read : (f : Frame) (e : ℕ) (v : Value) → r ≡ Answer.Read e v → f ≡ first_frame false → o ≡ settle_of calc s f e v → o ≡ start_of calc s at
+module _ (calc : Arithmetic) (s : List ℕ) (at : ℕ) (r : Reading Value) (p : r ≡ answer_of (literal s at)) (o : Next) where
+  pub starts_read : (f : Frame) (e : ℕ) (v : Value) → r ≡ Ok (e, v) → f ≡ first_frame false → o ≡ settle_of calc s f e v → o ≡ start_of calc s at
   unfolding start_of taken
   starts_read f e v q l m = rw (was_read (literal s at) r e v p q, ← l) m
 
-  pub starts_miss : r ≡ Answer.Miss → o ≡ begin_of s at → o ≡ start_of calc s at
+  pub starts_stop : (stop : Stop) → r ≡ Err stop → o ≡ begin_of s at → o ≡ start_of calc s at
   unfolding start_of taken
-  starts_miss q m = rw (was_miss (literal s at) r p q) m
+  starts_stop Stop.Miss q m = rw (was_miss (literal s at) r p q) m
+  starts_stop (Stop.Hard k i) q m = rw (was_hard (literal s at) r k i p q) m
 
-  pub starts_deep : (i : ℕ) → r ≡ Answer.Deep i → o ≡ begin_of s at → o ≡ start_of calc s at
-  unfolding start_of taken
-  starts_deep i q m = rw (was_deep (literal s at) r i p q).1 m
-
-  pub operand_read : (f : Frame) (e : ℕ) (v : Value) → r ≡ Answer.Read e v → o ≡ settle_of calc s f e v → o ≡ operand_of calc s f at
+  pub operand_read : (f : Frame) (e : ℕ) (v : Value) → r ≡ Ok (e, v) → o ≡ settle_of calc s f e v → o ≡ operand_of calc s f at
   unfolding operand_of taken
   operand_read f e v q m = rw (was_read (literal s at) r e v p q) m
 
-  pub operand_miss : (f : Frame) → r ≡ Answer.Miss → o ≡ open_of s f at → o ≡ operand_of calc s f at
+  pub operand_stop : (f : Frame) (stop : Stop) → r ≡ Err stop → o ≡ open_of s f at → o ≡ operand_of calc s f at
   unfolding operand_of taken
-  operand_miss f q m = rw (was_miss (literal s at) r p q) m
+  operand_stop f Stop.Miss q m = rw (was_miss (literal s at) r p q) m
+  operand_stop f (Stop.Hard k i) q m = rw (was_hard (literal s at) r k i p q) m
 
-  pub operand_deep : (f : Frame) (i : ℕ) → r ≡ Answer.Deep i → o ≡ open_of s f at → o ≡ operand_of calc s f at
-  unfolding operand_of taken
-  operand_deep f i q m = rw (was_deep (literal s at) r i p q).1 m
-
-pub ruleset look_laws = (starts_read, starts_miss, starts_deep, operand_read, operand_miss, operand_deep)
+pub ruleset look_laws = (starts_read, starts_stop, operand_read, operand_stop)
 
 -- b is the byte after blanks
 module _ (calc : Arithmetic) (s : List ℕ) (f : Frame) (e i b : ℕ) (v : Value) (p : i ≡ blanks s e) (q : b ≡ get_or s i 0) where

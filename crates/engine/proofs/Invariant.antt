@@ -1,10 +1,10 @@
 -- What a state of the engine means by rule 8, and what stays between two turns. The arithmetic calc is any.
+use Rattle.decimal.specs.Faults.{Value}
 use Prim.Native.Nat.{ℕ, zero, suc, ◌-◌, ◌≤◌}
 use mathlib.Core.Path.{◌≡◌}
 use mathlib.Core.Bool.{false, cond}
 use mathlib.Core.List.{List, [], ◌∷◌}
 use lib.ListN.{get_or, length}
-use Rattle.decimal.specs.declared.Value.{Value}
 use Rattle.text.specs.Answer.{Ans, To, Miss, ◌then◌, ◌else◌}
 use Rattle.amount.specs.Expression.{Arithmetic, negated_value, is_plus, is_times, goes_on, atom, products, closed, group, groups, within}
 use Rattle.engine.specs.declared.Pending.{Pending}

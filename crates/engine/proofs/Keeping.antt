@@ -1,4 +1,9 @@
 -- What each turn of the engine keeps.
+use Rattle.text.specs.steps.Told.{Reading}
+use Rattle.text.specs.declared.stop.Stop.{Stop}
+use Rattle.std.specs.Prelude.{Err, Ok}
+use Rattle.text.specs.declared.stop.Cause.{Cause}
+use Rattle.decimal.specs.Faults.{Value}
 use Prim.Native.Nat.{ℕ, zero, suc, ◌+◌, ◌-◌, ◌^◌, ◌≤◌, ◌<◌}
 use mathlib.Core.Path.{◌≡◌, refl, sym, ap, subst, ◌∙◌}
 use mathlib.Core.Bool.{Bool, true, false, cond}
@@ -11,16 +16,14 @@ use lib.Seq.{get_or-set_same, get_or-set_other}
 use borrow.Author.Tests.{ne_eqb, eqb-true}
 use mir.Syntax.{w64}
 use mir.Val.{Fits}
-use Rattle.decimal.specs.declared.Value.{Value}
 use Rattle.text.specs.Run.{blanks}
 use Rattle.text.specs.Answer.{Ans, To, Miss, Hard, ◌then◌, ◌else◌}
 use Rattle.text.proofs.Steps.{byte_within}
 use Rattle.text.proofs.TestLaws.{differ}
-use Rattle.text.specs.Refusals.{deep_number}
+use Rattle.text.specs.Refusals.{too_deep}
 use Rattle.amount.specs.Literal.{literal}
 use Rattle.amount.specs.Expression.{Arithmetic, is_plus, is_times, closed, group, groups, within}
 use Rattle.amount.specs.steps.Answers.{answer_of}
-use Rattle.amount.specs.declared.expression.Answer.{Answer}
 use Rattle.engine.specs.declared.Frame.{Frame}
 use Rattle.engine.specs.declared.Next.{Next}
 use Rattle.engine.specs.declared.Next.TheVariants.{Start, Operand, Group, Done, Missed}
@@ -81,7 +84,7 @@ module _ (calc : Arithmetic) (s : List ℕ) where
 
   -- ---- answers through the frames
 
-  resume_hard : (n : ℕ) (fs : List Frame) (k p : ℕ) → resume calc s n fs (Hard k p) ≡ Hard k p
+  resume_hard : (n : ℕ) (fs : List Frame) (k : Cause) (p : ℕ) → resume calc s n fs (Hard k p) ≡ Hard k p
   unfolding resume enter ◌then◌ ◌else◌
   resume_hard n [] k p = refl
   resume_hard n (f ∷ fs) k p = resume_hard (suc n) fs k p
@@ -104,7 +107,7 @@ module _ (calc : Arithmetic) (s : List ℕ) where
   unfolding resume group within
   push m fs f p q b h = rw (b, h)
 
-  deep_enters : (n : ℕ) (f : Frame) (p : ℕ) → n ≡ 0 → get_or s p 0 ≡ 40 → enter calc (group calc n s) s f (group calc n s p) ≡ Hard deep_number p
+  deep_enters : (n : ℕ) (f : Frame) (p : ℕ) → n ≡ 0 → get_or s p 0 ≡ 40 → enter calc (group calc n s) s f (group calc n s p) ≡ Hard too_deep p
   unfolding enter group ◌then◌ ◌else◌
   deep_enters n f p z b = rw (z, b)
 
@@ -171,15 +174,15 @@ module _ (calc : Arithmetic) (s : List ℕ) (a : Ans Value) (t : List Frame) (d 
         sound = tt;
       }
 
-  pub kept_deep : (f : Frame) (p : ℕ) → x ≡ Group f p → groups ≤ d → Answer.Deep p ≡ answer_of a
+  pub kept_deep : (f : Frame) (p : ℕ) → x ≡ Group f p → groups ≤ d → Err (Stop.Hard too_deep p) ≡ answer_of a
   unfolding meaning answer_of
   kept_deep f p e h =
       let k = group_known f p e in
       ap answer_of
-      (sym (resume_hard calc s n (stack_of t d) 3 p) ∙ ap (resume calc s n (stack_of t d)) (sym (deep_enters calc s n f p (omega arith) k.1))
+      (sym (resume_hard calc s n (stack_of t d) too_deep p) ∙ ap (resume calc s n (stack_of t d)) (sym (deep_enters calc s n f p (omega arith) k.1))
       ∙ ap R (sym e) ∙ K.same)
 
-  pub kept_missed : (f : Frame) (r : Answer) → x ≡ Missed f → d ≡ 0 → r ≡ answer_of (fallback calc f) → r ≡ answer_of a
+  pub kept_missed : (f : Frame) (r : Reading Value) → x ≡ Missed f → d ≡ 0 → r ≡ answer_of (fallback calc f) → r ≡ answer_of a
   unfolding meaning Sound
   kept_missed f r e z q =
       q ∙ ap answer_of (ap (fallback calc) (ends d z) ∙ sym (missed_resumes calc s t d n f K.well (subst (Sound calc s) e K.sound)) ∙ ap R (sym e) ∙ K.same)
@@ -187,7 +190,7 @@ module _ (calc : Arithmetic) (s : List ℕ) (a : Ans Value) (t : List Frame) (d 
       ends : (d : ℕ) → d ≡ 0 → f ≡ cond (eqb d 0) f (get_or t 0 (first_frame false))
       ends d z = rw z
 
-  pub kept_fell : (f b : Frame) (r : Answer) → x ≡ Missed f → (d ≡ 0 → ⊥) → b ≡ get_or t 0 (first_frame false) → r ≡ answer_of (fallback calc b) → r ≡ answer_of a
+  pub kept_fell : (f b : Frame) (r : Reading Value) → x ≡ Missed f → (d ≡ 0 → ⊥) → b ≡ get_or t 0 (first_frame false) → r ≡ answer_of (fallback calc b) → r ≡ answer_of a
   unfolding meaning Sound
   kept_fell f b r e z l q =
       q ∙ ap answer_of (ap (fallback calc) (ends d z) ∙ sym (missed_resumes calc s t d n f K.well (subst (Sound calc s) e K.sound)) ∙ ap R (sym e) ∙ K.same)
@@ -225,7 +228,7 @@ module _ (calc : Arithmetic) (s : List ℕ) (a : Ans Value) (t : List Frame) (d 
 -- an expression is complete
 
 module _ (calc : Arithmetic) (s : List ℕ) (a : Ans Value) (t : List Frame) where
-  pub kept_read : (d : ℕ) (x : Next) → Kept calc s a t d x → (e : ℕ) (v : Value) → x ≡ Done e v → d ≡ 0 → Answer.Read e v ≡ answer_of a
+  pub kept_read : (d : ℕ) (x : Next) → Kept calc s a t d x → (e : ℕ) (v : Value) → x ≡ Done e v → d ≡ 0 → Ok (e, v) ≡ answer_of a
   unfolding meaning answer_of resume stack_of
   kept_read zero x K e v h z = ap answer_of (ap (meaning calc s groups) (sym h) ∙ K.same)
   kept_read (suc d) x K e v h z = absurd (omega arith)
@@ -258,7 +261,7 @@ module _ (calc : Arithmetic) (s : List ℕ) (at : ℕ) (x : Next) (q : x ≡ sta
   pub begun_kept : (t : List Frame) → length t ≡ groups → Kept calc s (within calc groups s at) t 0 x
   begun_kept t l = kept_start calc s (within calc groups s at) t 0 (Start at) (kept_first calc s t at l) at x refl q
 
-  pub begun_read : (e : ℕ) (v : Value) → x ≡ Done e v → Answer.Read e v ≡ answer_of (within calc groups s at)
+  pub begun_read : (e : ℕ) (v : Value) → x ≡ Done e v → Ok (e, v) ≡ answer_of (within calc groups s at)
   unfolding meaning answer_of
   begun_read e v h =
       ap answer_of (ap (meaning calc s groups) (sym h ∙ q) ∙ start_means calc s groups at (literal s at) refl)

@@ -1,4 +1,5 @@
 -- What the engine's steps mean by rule 8. The arithmetic calc is any: no law looks into it.
+use Rattle.decimal.specs.Faults.{Value}
 use Prim.Native.Nat.{ℕ, suc, ◌+◌}
 use mathlib.Core.Path.{◌≡◌, refl, sym, ap, subst, ◌∙◌}
 use mathlib.Core.Bool.{Bool, true, false, cond}
@@ -7,7 +8,6 @@ use native.Mathlib.Omega.{arith}
 use lib.Dec.{eqb}
 use lib.ListN.{get_or, length}
 use borrow.Author.Tests.{ne_eqb, eqb-true, eqb-false}
-use Rattle.decimal.specs.declared.Value.{Value}
 use Rattle.text.specs.Run.{blanks}
 use Rattle.text.specs.Answer.{Ans, To, Miss, Hard, ◌then◌, ◌else◌}
 use Rattle.amount.specs.Literal.{literal}

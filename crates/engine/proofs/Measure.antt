@@ -1,4 +1,5 @@
 -- That each turn of the engine leaves less to do.
+use Rattle.decimal.specs.Faults.{Value}
 use Prim.Native.Nat.{ℕ, ◌+◌, ◌-◌, ◌*◌, ◌≤◌, ◌<◌}
 use mathlib.Core.Path.{◌≡◌, refl, sym}
 use mathlib.Core.Bool.{Bool, true, false, cond}
@@ -7,7 +8,6 @@ use native.Mathlib.Omega.{arith}
 use lib.Dec.{eqb}
 use lib.ListN.{get_or, length}
 use borrow.Author.Tests.{eqb-true}
-use Rattle.decimal.specs.declared.Value.{Value}
 use Rattle.text.specs.Bytes.{is_blank}
 use Rattle.text.specs.Run.{blanks}
 use Rattle.text.specs.Answer.{Ans, To, Miss, Hard}

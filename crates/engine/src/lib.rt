@@ -7,13 +7,15 @@ ghost use Rattle.amount.specs.Expression.{combined, expression_in};
 ghost use Rattle.amount.specs.steps.Answers.{answer_of};
 ghost use Rattle.engine.specs.steps.Turns.{first_frame, joined, fallback, total_of, waiting_of, after_of, settle_of, open_of, begin_of, start_of, operand_of, shut_of};
 
-use amount::expression::{Answer, GROUPS};
+use amount::expression::GROUPS;
 use amount::{expression, literal};
 use decimal::{Form, Value};
 use text::run::Class;
+use text::stop::{Cause, Reading, Stop};
 use text::{bytes, run};
 
-// A value with the operator after it, whose other operand is being read; or none.
+// A value with the operator after it, whose other operand is being read; or none. As an Option of a pair it takes eight
+// bytes more, twice in each of 32 frames, and the stack is over its bar of 4,096 bytes.
 #[derive(Clone, Copy)]
 enum Pending {
     Nothing,
@@ -29,7 +31,7 @@ struct Frame {
     end: usize,
 }
 
-// What comes next.
+// What comes next. An enum, for a closure that is kept would have to be boxed.
 #[derive(Clone, Copy)]
 enum Next {
     // An expression starts at a place.
@@ -66,17 +68,17 @@ fn join(p: Pending, v: Value, form: Form) -> Value
 }
 
 // An expression whose operand misses ends before the operator.
-fn fallen(f: Frame, form: Form) -> Answer
+fn fallen(f: Frame, form: Form) -> Reading<Value>
     ensures { result ≡ answer_of (fallback (combined form) f) }
 {
     let end = f.end;
     let sum = f.sum;
     let product = f.product;
     match product {
-        Pending::With(_, v) => Answer::Read(end, join(sum, v, form)),
+        Pending::With(_, v) => Ok((end, join(sum, v, form))),
         Pending::Nothing => match sum {
-            Pending::With(_, u) => Answer::Read(end, u),
-            Pending::Nothing => Answer::Miss,
+            Pending::With(_, u) => Ok((end, u)),
+            Pending::Nothing => Err(Stop::Miss),
         },
     }
 }
@@ -142,7 +144,8 @@ fn opening(s: &[u8], f: Frame, at: usize) -> Next
     }
 }
 
-// An expression that starts with no literal.
+// An expression that starts with no literal. Not inlined: its frames would stand on the stack while `start` settles.
+#[inline(never)]
 fn begin(s: &[u8], at: usize) -> Next
     ensures { result ≡ begin_of s.now at }
 {
@@ -156,22 +159,18 @@ fn begin(s: &[u8], at: usize) -> Next
 fn start(s: &[u8], at: usize, form: Form) -> Next
     ensures { result ≡ start_of (combined form) s.now at }
 {
-    let number = literal::literal_at(s, at);
-    match number {
-        Answer::Read(e, v) => settle(s, first(false), e, v, form),
-        Answer::Miss => begin(s, at),
-        Answer::Deep(_) => begin(s, at),
+    match literal::literal_at(s, at) {
+        Ok((e, v)) => settle(s, first(false), e, v, form),
+        Err(_) => begin(s, at),
     }
 }
 
 fn operand(s: &[u8], f: Frame, at: usize, form: Form) -> Next
     ensures { result ≡ operand_of (combined form) s.now f at }
 {
-    let number = literal::literal_at(s, at);
-    match number {
-        Answer::Read(e, v) => settle(s, f, e, v, form),
-        Answer::Miss => opening(s, f, at),
-        Answer::Deep(_) => opening(s, f, at),
+    match literal::literal_at(s, at) {
+        Ok((e, v)) => settle(s, f, e, v, form),
+        Err(_) => opening(s, f, at),
     }
 }
 
@@ -188,16 +187,17 @@ fn shut(s: &[u8], f: Frame, e: usize, v: Value, form: Form) -> Next
 }
 
 // Rule 8 in a form: the answer of `expression::expression_in`.
-pub fn evaluate(s: &[u8], at: usize, form: Form) -> Answer
+pub fn evaluate(s: &[u8], at: usize, form: Form) -> Reading<Value>
     ensures { result ≡ answer_of (expression_in form s.now at) }
 {
     let mut next = start(s, at, form);
     // A literal that no operator follows needs no table.
     if let Next::Done(e, v) = next {
-        return Answer::Read(e, v);
+        return Ok((e, v));
     }
     let mut frames = [first(false); GROUPS];
     let mut depth: usize = 0;
+    // A turn is a step of the machine; only what it reads tells which is the last.
     loop {
         match next {
             Next::Start(p) => {
@@ -208,7 +208,7 @@ pub fn evaluate(s: &[u8], at: usize, form: Form) -> Answer
             }
             Next::Group(f, p) => {
                 if GROUPS <= depth {
-                    return Answer::Deep(p);
+                    return Err(Stop::Hard(Cause::TooDeep, p));
                 }
                 frames[depth] = f;
                 depth += 1;
@@ -216,7 +216,7 @@ pub fn evaluate(s: &[u8], at: usize, form: Form) -> Answer
             }
             Next::Done(e, v) => {
                 if depth == 0 {
-                    return Answer::Read(e, v);
+                    return Ok((e, v));
                 }
                 depth -= 1;
                 let around = frames[depth];

@@ -20,7 +20,7 @@ use Rattle.text.proofs.SharedLines.{Shared, byte_same, run_alike, gap_alike, lin
 use Rattle.text.specs.Boundaries.{is_start}
 use Rattle.text.proofs.TokenEnds.{gap_reach, line_reach}
 use Rattle.text.proofs.TextCut.{xs, s, cut}
-use Rattle.text.specs.Refusals.{required_number, word_gap_number}
+use Rattle.text.specs.Refusals.{missing, missing_gap}
 use Rattle.amount.specs.declared.detail.Detail.{Detail}
 use Rattle.amount.specs.Details.{Rows, span, quoted}
 use Rattle.amount.specs.Amounts.{hard_currency, price_of}
@@ -109,7 +109,7 @@ module _ (front t : List ℕ) (b : ℕ) (B : is_start b ≡ true) where
       → ((g : ℕ) → g < M → Agrees M (suc M) false (content S g and ending S) (content X g and ending X)) → Agrees M (suc M) false (keyword w content S at) (keyword w content X at)
   unfolding keyword
   keyword_at_lem w content f at h c =
-      and_agree (word_alike C (bytes w) f (upto at h)) (λ e h₁. and_agree (hard_gap_alike C word_gap_number (upto e h₁)) (λ g h₂. c g h₂))
+      and_agree (word_alike C (bytes w) f (upto at h)) (λ e h₁. and_agree (hard_gap_alike C missing_gap (upto e h₁)) (λ g h₂. c g h₂))
 
   keyword_agree : (w : String) (content : List ℕ → ℕ → Rows) → has_lf (bytes w) ≡ false → ((g : ℕ) → g < M → Same M (content S g) (content X g)) → (at : ℕ) → at < M
       → Agrees M (suc M) false (keyword w content S at) (keyword w content X at)
@@ -133,13 +133,13 @@ module _ (front t : List ℕ) (b : ℕ) (B : is_start b ≡ true) where
           (λ q. absurd_bool (sym (c j x (rw (ending_miss S j q))) ∙ e))
 
   abbrev lost_at : ℕ → Rows
-  lost_at at = word (bytes "event") S at and λ c. hard_gap word_gap_number S c and λ d. unended (event_of S d)
+  lost_at at = word (bytes "event") S at and λ c. hard_gap missing_gap S c and λ d. unended (event_of S d)
 
   event_agree : (at : ℕ) → at < M → Clear M (lost_at at) → Agrees M (suc M) false (keyword "event" event_of S at) (keyword "event" event_of X at)
   unfolding keyword
   event_agree at h c =
       and_at (word_alike C (bytes "event") words_lf.6 (upto at h)) (λ e x p h₁.
-      and_at (hard_gap_alike C word_gap_number (upto e h₁)) (λ g y q h₂.
+      and_at (hard_gap_alike C missing_gap (upto e h₁)) (λ g y q h₂.
       event_ending g h₂ (clear_and M _ _ g y (clear_and M _ _ e x c p) q)))
 
   dateless_agree : (d at : ℕ) → at < M → Clear M (lost_at at) → Agree in_form M (suc M) false (dateless d S at) (dateless d X at)
@@ -162,7 +162,7 @@ module _ (front t : List ℕ) (b : ℕ) (B : is_start b ≡ true) where
   unfolding directive lost_event
   directive_agree h c =
       then_at (date_alike C (upto 0 h)) (λ e d p h₁.
-      then_at (hard_gap_alike C {A = Detail} word_gap_number (upto e h₁)) (λ g x q h₂.
+      then_at (hard_gap_alike C {A = Detail} missing_gap (upto e h₁)) (λ g x q h₂.
       dateless_agree d g h₂ (clear_and M _ _ g x (clear_then M _ _ e d c p) q)))
 
   -- ---- rules 14 and 15
@@ -182,9 +182,9 @@ module _ (front t : List ℕ) (b : ℕ) (B : is_start b ≡ true) where
   unfolding include
   include_agree h =
       and_agree (word_alike C (bytes "include") words_lf.8 (upto 0 h)) (λ a h₁.
-      and_agree (hard_gap_alike C word_gap_number (upto a h₁)) (λ c h₂.
-      and_loose N (hard_string_agree front t b B c h₂) (hard_string_reach S c (omega (arith, longer front t b B))) (λ j _ h₃. line_agree front t b B required_number j (omega arith))
-      (λ j p q. must_reach N j required j _ q (line_reach S j q)) (λ j. sure_must required_number j _)))
+      and_agree (hard_gap_alike C missing_gap (upto a h₁)) (λ c h₂.
+      and_loose N (hard_string_agree front t b B c h₂) (hard_string_reach S c (omega (arith, longer front t b B))) (λ j _ h₃. line_agree front t b B missing j (omega arith))
+      (λ j p q. must_reach N j required j _ q (line_reach S j q)) (λ j. sure_must missing j _)))
 
   tagged_agree : (w : String) → has_lf (bytes w) ≡ false → 0 < M → Agrees M (suc M) false (tagged w S 0) (tagged w X 0)
   unfolding tagged

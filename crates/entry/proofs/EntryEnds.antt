@@ -20,7 +20,7 @@ use Rattle.amount.specs.Amounts.{hard_currency, price_of}
 use Rattle.amount.proofs.AmountLaws.{hard_currency_reach, price_of_reach, quoted_reach}
 use Rattle.posting.specs.Metadata.{metadata}
 use Rattle.posting.proofs.PostingEnds.{metadata_reach}
-use Rattle.text.specs.Refusals.{required_number, word_gap_number}
+use Rattle.text.specs.Refusals.{missing, missing_gap}
 use Rattle.amount.specs.declared.detail.Detail.{Detail}
 use Rattle.content.specs.Contents.{hard_account, hard_string, balance_of, open_of, pad_of, event_of}
 use Rattle.entry.specs.Directive.{keyword, option, include, tagged}
@@ -46,7 +46,7 @@ module _ (s : List ℕ) where
   unfolding keyword
   keyword_reach w content r at h =
       and_reach N (at + length (bytes w)) (at + 1) (word (bytes w) s at) _ (word_reach s at h (bytes w)) (λ e p₁ q₁.
-      and_reach N (e + 1) (at + 1) (hard_gap word_gap_number s e) _ (hard_gap_reach s e word_gap q₁) (λ g p₂ q₂.
+      and_reach N (e + 1) (at + 1) (hard_gap missing_gap s e) _ (hard_gap_reach s e word_gap q₁) (λ g p₂ q₂.
       and_reach N (g + 1) (at + 1) (content s g) _ (r g q₂) (λ m p₃ q₃.
       and_reach N m (at + 1) (line_end s m) _ (line_reach s m q₃) (λ l p₄ q₄.
       reach_from N l (at + 1) (metadata s l) (omega arith) (metadata_reach s l q₄)))))
@@ -65,9 +65,9 @@ module _ (s : List ℕ) where
   unfolding include
   include_reach at h =
       and_reach N (at + length (bytes "include")) (at + 1) (word (bytes "include") s at) _ (word_reach s at h (bytes "include")) (λ a p₁ q₁.
-      and_reach N (a + 1) (at + 1) (hard_gap word_gap_number s a) _ (hard_gap_reach s a word_gap q₁) (λ b p₂ q₂.
+      and_reach N (a + 1) (at + 1) (hard_gap missing_gap s a) _ (hard_gap_reach s a word_gap q₁) (λ b p₂ q₂.
       and_reach N (b + 1) (at + 1) (hard_string s b) _ (hard_string_reach s b q₂) (λ e p₃ q₃.
-      reach_from N e (at + 1) (must required_number e (line_end s e)) (omega arith) (must_reach N e required e _ q₃ (line_reach s e q₃)))))
+      reach_from N e (at + 1) (must missing e (line_end s e)) (omega arith) (must_reach N e required e _ q₃ (line_reach s e q₃)))))
 
   pub tagged_reach : (w : String) (at : ℕ) → at ≤ N → Reach N (at + 1) (tagged w s at)
   unfolding tagged
@@ -97,7 +97,7 @@ module _ (s : List ℕ) where
   unfolding directive
   directive_reach =
       then_reach N 10 1 (date s 0) _ (date_reach s 0 (omega arith)) (λ e d p₁ q₁.
-      then_reach N (e + 1) 1 (hard_gap {A = Detail} word_gap_number s e) _ (hard_gap_reach s e word_gap q₁) (λ g _ p₂ q₂.
+      then_reach N (e + 1) 1 (hard_gap {A = Detail} missing_gap s e) _ (hard_gap_reach s e word_gap q₁) (λ g _ p₂ q₂.
       reach_from N g 1 (dateless d s g) (omega arith) (dateless_reach d g q₂)))
 
   pub blank_reach : Reach N 1 (blank s)

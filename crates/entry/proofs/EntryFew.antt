@@ -10,7 +10,7 @@ use Rattle.text.specs.Leaves.{line_end, word}
 use Rattle.text.proofs.Joins.{word_gap, Reach}
 use Rattle.text.proofs.TokenEnds.{line_reach, tag_reach, word_reach}
 use Rattle.amount.specs.Details.{Rows, quoted}
-use Rattle.text.specs.Refusals.{required_number}
+use Rattle.text.specs.Refusals.{missing}
 use Rattle.amount.proofs.RowCounts.{span_filled, Fits, fits_from, fits_wide, must_fits, row_fits, and_fits, bare_and, word_bare, tag_and}
 use Rattle.amount.proofs.AmountLaws.{quoted_reach}
 use Rattle.posting.proofs.PostingFew.{line_fits, gap_and, metadata_fits}
@@ -58,7 +58,7 @@ module _ (s : List ℕ) where
       word_and "include" (at + 1) at _ h (λ a p₁ q₁.
       hard_gap_and s word_gap (at + 1) a _ q₁ (λ b p₂ q₂.
       fits_from b (at + 1) _ (omega arith)
-      (and_fits N (b + 1) b (hard_string s b) _ (hard_string_reach s b q₂) (hard_string_fits s b) (λ e p₃ q₃. must_fits e required_number e _ (line_fits s e q₃)))))
+      (and_fits N (b + 1) b (hard_string s b) _ (hard_string_reach s b q₂) (hard_string_fits s b) (λ e p₃ q₃. must_fits e missing e _ (line_fits s e q₃)))))
 
   pub tagged_fits : (w : String) (at : ℕ) → at ≤ N → Fits s (at + 1) (tagged w s at)
   unfolding tagged

@@ -1,11 +1,12 @@
 -- What an entry that reads was read from, and how long it is.
+use Rattle.text.specs.declared.stop.Cause.{Cause}
+use Rattle.decimal.specs.Faults.{Value, number_of}
+use Rattle.std.specs.Prelude.{Err, Ok}
 use Prim.Native.Nat.{ℕ, ◌≤◌, ◌<◌}
 use native.Mathlib.Omega.{arith}
 use mathlib.Core.Path.{◌≡◌, refl, subst}
 use mathlib.Core.List.{List, [], ◌∷◌}
 use lib.ListN.{length}
-use Rattle.decimal.specs.declared.Value.{Value}
-use Rattle.decimal.specs.declared.Value.TheVariants.{Known, Refused}
 use Rattle.text.specs.Answer.{Ans, To, Miss, Hard}
 use Rattle.text.proofs.Joins.{Reach}
 use Rattle.amount.specs.declared.detail.Detail.{Detail}
@@ -21,10 +22,10 @@ unfolding judged
 judged_got [] r n rs e = e
 judged_got (d ∷ ds) r n rs e = go d.value e (judged_got ds r n rs)
   where
-    go : (v : Value) → elim v as (λ _. Reads) [ Known x ↦ judged ds r | Refused m ↦ refuse m (value_place d) ] ≡ got n rs
+    go : (v : Value) → elim v as (λ _. Reads) [ Ok x ↦ judged ds r | Err m ↦ refuse (number_of m) (value_place d) ] ≡ got n rs
         → (judged ds r ≡ got n rs → r ≡ got n rs) → r ≡ got n rs
-    go (Known x) e ih = ih e
-    go (Refused m) e ih = absurd (let z : ◌≡◌ {A = ℕ} 0 1 = cc in omega arith)
+    go (Ok x) e ih = ih e
+    go (Err m) e ih = absurd (let z : ◌≡◌ {A = ℕ} 0 1 = cc in omega arith)
 
 pub entry_form : (s : List ℕ) (n : ℕ) (rs : List Row) → entry_of s ≡ got n rs → (f : Form) × (form_of s ≡ To n f) × (rs ≡ rows_of s n f)
 unfolding entry_of settled
@@ -38,7 +39,8 @@ entry_form s n rs e = go (form_of s) refl e
         let j = same k f (judged_got f.details (got k (rows_of s k f)) n rs q) in
         (f, subst (λ m. form_of s ≡ To m f) j.0 p, subst (λ m. rs ≡ rows_of s m f) j.0 j.1)
     go Miss p q = absurd (let z : ◌≡◌ {A = ℕ} 0 1 = cc in omega arith)
-    go (Hard k m) p q = absurd (let z : ◌≡◌ {A = ℕ} 0 1 = cc in omega arith)
+    go (Hard Cause.TooDeep m) p q = absurd (let z : ◌≡◌ {A = ℕ} 0 1 = cc in omega arith)
+    go (Hard Cause.Missing m) p q = absurd (let z : ◌≡◌ {A = ℕ} 0 1 = cc in omega arith)
 
 -- a byte at least, and no more than there are
 pub entry_sound : (s : List ℕ) (n : ℕ) (rs : List Row) → entry_of s ≡ got n rs → (0 < n) × (n ≤ length s)

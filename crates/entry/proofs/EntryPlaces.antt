@@ -1,20 +1,19 @@
 -- An entry's refusal has a number of its list, and its place stands within the entry's text.
+use Rattle.text.specs.declared.stop.Cause.{Cause}
+use Rattle.std.specs.Prelude.{Err, Ok}
+use Rattle.decimal.specs.Faults.{Value, number_of}
 use Prim.Native.Nat.{ℕ, ◌≤◌}
 use native.Mathlib.Omega.{arith}
-use mathlib.Core.Path.{◌≡◌, refl, subst}
+use mathlib.Core.Path.{◌≡◌, refl, subst, sym}
 use mathlib.Core.Bool.{Bool, true, false, cond}
 use mathlib.Core.Logic.{inl, inr}
 use mathlib.Core.List.{List, [], ◌∷◌}
 use borrow.Author.Tests.{eqb-true}
 use lib.Dec.{eqb}
 use lib.ListN.{length}
-use Rattle.decimal.specs.declared.Value.{Value}
-use Rattle.decimal.specs.declared.Value.TheVariants.{Known, Refused}
 use Rattle.text.specs.Every.{OneOf}
 use Rattle.text.specs.Answer.{Ans, To, Miss, Hard}
-use Rattle.text.proofs.EveryLaws.{one_has}
-use Rattle.text.proofs.Joins.{reading_numbers, Reach}
-use Rattle.text.specs.Refusals.{deep_number}
+use Rattle.text.proofs.Joins.{Reach}
 use Rattle.amount.specs.declared.detail.Detail.{Detail}
 use Rattle.amount.specs.Kinds.{number_meta_kind}
 use Rattle.amount.proofs.ValueSizes.{value_numbers, Small}
@@ -49,9 +48,6 @@ value_within s d h f = on (eqb d.kind number_meta_kind) refl
 abbrev pub entry_numbers : List ℕ
 entry_numbers = 3 ∷ 4 ∷ 5 ∷ value_numbers
 
-reading_number : (k : ℕ) → OneOf reading_numbers k → OneOf entry_numbers k
-reading_number k w = one_has (OneOf entry_numbers) reading_numbers k (inl refl, (inr (inl refl), (inr (inl refl), (inr (inl refl), tt)))) w
-
 -- ---- the entry
 
 -- refused by one of the numbers, at a place of the text
@@ -67,10 +63,10 @@ module _ (s : List ℕ) (k p : ℕ) where
       on d.value refl r.1.small (value_within s d (omega (arith, rising_le s d.start j ds r.2)) r.1.second) (judged_met d.start j ds m rs h r.2)
     where
       on : (v : Value) → d.value ≡ v → Small d.value → value_place d ≤ length s → (judged ds (got m rs) ≡ refuse k p → Met value_numbers s k p) → Met value_numbers s k p
-      on (Known x) q t u f = f (rw q at e)
-      on (Refused n) q t u f =
-          let w : refuse n (value_place d) ≡ refuse k p = rw q at e in
-          let y : n ≡ k = cc in
+      on (Ok x) q t u f = f (rw q at e)
+      on (Err n) q t u f =
+          let w : refuse (number_of n) (value_place d) ≡ refuse k p = rw q at e in
+          let y : number_of n ≡ k = cc in
           let z : value_place d ≡ p = cc in
           (subst (OneOf value_numbers) y (subst Small q t).holds, omega arith)
 
@@ -78,10 +74,6 @@ module _ (s : List ℕ) (k p : ℕ) where
   unfolding entry_of settled
   entry_met e = on (form_of s) refl e
     where
-      start_or : (b : Bool) (j : ℕ) → j ≤ length s → cond b j 0 ≤ length s
-      start_or true j h = h
-      start_or false j h = omega arith
-
       on : (a : Ans Form) → form_of s ≡ a → settled s a ≡ refuse k p → Met entry_numbers s k p
       on (To m f) q e =
           let w = judged_met 1 m f.details m _ (subst (Reach (length s) 1) q (form_reach s)).ends.1 (form_placed s m f q).0 e in (inr (inr (inr w.0)), w.1)
@@ -89,11 +81,15 @@ module _ (s : List ℕ) (k p : ℕ) where
           let y : k ≡ 5 = cc in
           let z : ◌≡◌ {A = ℕ} 0 p = cc in
           (inr (inr (inl y)), omega arith)
-      on (Hard i j) q e =
+      on (Hard Cause.TooDeep j) q e =
           let r = (subst (Reach (length s) 1) q (form_reach s)).ends in
-          let y : i ≡ k = cc in
-          let z : ◌≡◌ {A = ℕ} (cond (eqb i deep_number) j 0) p = cc in
-          (subst (OneOf entry_numbers) y (reading_number i r.1), omega (arith, start_or (eqb i deep_number) j r.0))
+          let y : 3 ≡ k = cc in
+          let z : j ≡ p = cc in
+          (inl (sym y), omega (arith, z, r.0))
+      on (Hard Cause.Missing j) q e =
+          let y : 4 ≡ k = cc in
+          let z : ◌≡◌ {A = ℕ} 0 p = cc in
+          (inr (inl (sym y)), omega arith)
 
   pub entry_number : entry_of s ≡ refuse k p → OneOf entry_numbers k
   entry_number e = (entry_met e).0

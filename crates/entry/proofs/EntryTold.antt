@@ -1,5 +1,7 @@
 -- Rules 1 and 4: which details an entry has, by its kind. They stand in order of start within its bytes, and are no
 -- more than these.
+use Rattle.text.specs.declared.stop.Cause.{Cause}
+use Rattle.std.specs.Prelude.{None, Some}
 use Prim.Native.Nat.{ℕ, ◌+◌, ◌≤◌, ◌<◌}
 use Prim.Native.String.{String}
 use native.Mathlib.Omega.{arith}
@@ -14,14 +16,13 @@ use Rattle.text.specs.Bytes.{bytes, is_digit, is_small, in_line}
 use Rattle.text.specs.Words.{starts_with, word_at}
 use Rattle.text.specs.Run.{run_to, blanks}
 use Rattle.text.specs.Lines.{gap_at}
-use Rattle.text.specs.declared.Read.{Read}
 use Rattle.text.specs.Answer.{Ans, To, Miss, Hard, ◌then◌, ◌and◌, ◌else◌, must}
 use Rattle.text.specs.Leaves.{token, date, gap, hard_gap, word}
 use Rattle.text.proofs.TestLaws.{absurd_bool, and_left, and_right}
 use Rattle.text.proofs.Joins.{word_gap, Reach}
 use Rattle.text.proofs.TokenEnds.{date_reach, hard_gap_reach}
 use Rattle.text.proofs.DayLaws.{date_there}
-use Rattle.text.specs.Refusals.{word_gap_number}
+use Rattle.text.specs.Refusals.{missing_gap}
 use Rattle.amount.specs.declared.detail.Detail.{Detail}
 use Rattle.amount.specs.Details.{Rows}
 use Rattle.row.specs.Details.{spanned}
@@ -103,8 +104,8 @@ module _ (s : List ℕ) where
       head_is [] e = absurd_bool e
       head_is (b ∷ u) e = eqb-true b c (and_left (eqb b c) (starts_with w u) e)
 
-      go : (b : Bool) → starts_with (c ∷ w) (drop 0 s) ≡ b → Fits s 1 (token (cond b (Read.To (0 + length (c ∷ w))) Read.Miss) and f)
-          → Tells s (as_entry k 0 (token (cond b (Read.To (0 + length (c ∷ w))) Read.Miss) and f))
+      go : (b : Bool) → starts_with (c ∷ w) (drop 0 s) ≡ b → Fits s 1 (token (cond b (Some (0 + length (c ∷ w))) None) and f)
+          → Tells s (as_entry k 0 (token (cond b (Some (0 + length (c ∷ w))) None) and f))
       go true e r = word_tells k _ h i (ap is_small (head_is s e) ∙ m) r
       go false e r = tt
 
@@ -135,11 +136,11 @@ module _ (s : List ℕ) where
       key k w content a b r u = keyword_tells k d _ (date_there s 0 10 d v).0.low a b (fits_from g 1 _ i (keyword_fits s w content r u g h))
 
   -- a gap ends behind its blanks
-  gap_blanks : (n at j : ℕ) (x : List Detail) → hard_gap n s at ≡ To j x → j ≡ blanks s at
+  gap_blanks : (n : Cause) (at j : ℕ) (x : List Detail) → hard_gap n s at ≡ To j x → j ≡ blanks s at
   unfolding hard_gap must gap token gap_at
   gap_blanks n at j x e = go (ltb at (blanks s at)) e
     where
-      go : (b : Bool) → must n at (token (cond b (Read.To (blanks s at)) Read.Miss)) ≡ To j x → j ≡ blanks s at
+      go : (b : Bool) → must n at (token (cond b (Some (blanks s at)) None)) ≡ To j x → j ≡ blanks s at
       go true e = let z : ◌≡◌ {A = ℕ} (blanks s at) j = cc in sym z
       go false e = absurd (let z : ◌≡◌ {A = ℕ} 0 1 = cc in omega arith)
 
@@ -147,9 +148,9 @@ module _ (s : List ℕ) where
   unfolding directive
   directive_tells =
       then_tells (length s) 10 (date s 0) _ (date_reach s 0 (omega arith)) (λ e d q p₁ q₁.
-      then_tells (length s) (e + 1) (hard_gap {A = Detail} word_gap_number s e) _ (hard_gap_reach s e word_gap q₁) (λ g x z p₂ q₂.
+      then_tells (length s) (e + 1) (hard_gap {A = Detail} missing_gap s e) _ (hard_gap_reach s e word_gap q₁) (λ g x z p₂ q₂.
       let ten = (date_there s 0 e d q).1 in
-      dateless_tells d g (q ∙ ap (λ (i : ℕ). To i d) ten) (gap_blanks word_gap_number e g x z ∙ ap (blanks s) ten) (omega arith) q₂))
+      dateless_tells d g (q ∙ ap (λ (i : ℕ). To i d) ten) (gap_blanks missing_gap e g x z ∙ ap (blanks s) ten) (omega arith) q₂))
 
   blank_tells : Tells s (blank s)
   unfolding blank as_entry

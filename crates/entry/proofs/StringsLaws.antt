@@ -1,4 +1,5 @@
 -- Laws of demand 3's strings: of rows one after the other, and of strings that cross a boundary, which hold it.
+use Rattle.text.specs.declared.stop.Cause.{Cause}
 use Prim.Native.Nat.{ℕ, zero, suc, ◌+◌, ◌-◌, ◌<◌}
 use native.Mathlib.Omega.{arith}
 use mathlib.Core.Path.{◌≡◌, refl, sym, subst, ◌∙◌}
@@ -12,7 +13,7 @@ use Rattle.text.specs.Bytes.{bytes, is_digit, is_small, between}
 use Rattle.text.specs.Every.{Every}
 use Rattle.text.specs.Answer.{To, Miss, Hard, ◌and◌}
 use Rattle.text.specs.Leaves.{hard_gap, date, string, word, line_end}
-use Rattle.text.specs.Refusals.{required_number, word_gap_number}
+use Rattle.text.specs.Refusals.{missing, missing_gap}
 use Rattle.text.specs.Boundaries.{is_start, cuts, holds}
 use Rattle.text.proofs.TestLaws.{absurd_bool, or_second, and_left, and_right}
 use Rattle.text.proofs.EveryLaws.{every_append, every_left, every_right}
@@ -94,18 +95,18 @@ and_only a g h k j ds e =
     rw p.5 (every_append IsString p.1 p.2 (h p.0 p.1 p.3) (k p.0 j p.2 p.4))
 
 module _ (s : List ℕ) where
-  gap_only : (n at : ℕ) → StringsOnly (hard_gap n s at)
+  gap_only : (n : Cause) (at : ℕ) → StringsOnly (hard_gap n s at)
   gap_only n at = bare_only (hard_gap n s at) (hard_gap_bare s at n)
 
   string_only : (at : ℕ) → StringsOnly (hard_string s at)
   unfolding hard_string quoted string
   string_only at j ds e =
       and_only (string s at) _ (bare_only (string s at) (token_bare _))
-      (λ i k xs f. rw (to_inv i k (span string_kind (at + 1) (i - 1) ∷ []) xs f).1 (refl, tt)) j ds (must_inv required_number at _ j ds e)
+      (λ i k xs f. rw (to_inv i k (span string_kind (at + 1) (i - 1) ∷ []) xs f).1 (refl, tt)) j ds (must_inv missing at _ j ds e)
 
   event_only : (at : ℕ) → StringsOnly (event_of s at)
   unfolding event_of
-  event_only at = and_only (hard_string s at) _ (string_only at) (λ a. and_only (hard_gap required_number s a) _ (gap_only required_number a) string_only)
+  event_only at = and_only (hard_string s at) _ (string_only at) (λ a. and_only (hard_gap missing s a) _ (gap_only missing a) string_only)
 
   unless_only : (a : Rows) (i : ℕ) (rs : List Detail) → Every IsString rs → StringsOnly (unless a (To i rs))
   unfolding unless
@@ -117,9 +118,9 @@ module _ (s : List ℕ) where
   unfolding lost_event
   lost_only j ds q =
       let day = then_inv (date s 0) _ j ds q in
-      and_only (hard_gap word_gap_number s day.0) _ (gap_only word_gap_number day.0) (λ b.
+      and_only (hard_gap missing_gap s day.0) _ (gap_only missing_gap day.0) (λ b.
       and_only (word (bytes "event") s b) _ (bare_only _ (word_bare s b (bytes "event"))) (λ c.
-      and_only (hard_gap word_gap_number s c) _ (gap_only word_gap_number c) (λ d k rs e.
+      and_only (hard_gap missing_gap s c) _ (gap_only missing_gap c) (λ d k rs e.
       let both = then_inv (event_of s d) _ k rs e in
       unless_only (line_end s both.0) both.0 both.1 (event_only d both.0 both.1 both.2) k rs both.3))) j ds day.3
 

@@ -1,8 +1,9 @@
 -- The rows of an entry, with places and lines counted from its start; the values of its rows; its refusals.
-use Rattle.std.specs.Prelude.{ℕ, cond, List, [], ◌∷◌, map, eqb, pos, length, take}
-use Rattle.decimal.specs.declared.Value.TheVariants.{Known, Refused}
+use Rattle.text.specs.declared.stop.Cause.{Cause}
+use Rattle.decimal.specs.Faults.{number_of}
+use Rattle.std.specs.Prelude.{ℕ, List, [], ◌∷◌, map, pos, length, take, Err, Ok}
 use Rattle.text.specs.Answer.{Ans, To, Miss, Hard}
-use Rattle.text.specs.Refusals.{deep_number}
+use Rattle.text.specs.Refusals.{too_deep, cause_number, missing}
 use Rattle.amount.specs.declared.detail.Detail.{Detail}
 use Rattle.row.specs.declared.table.Row.{Row}
 use Rattle.row.specs.Row.{row_of, feeds}
@@ -25,13 +26,14 @@ pub data Reads : Type 0 where
 -- the values of an entry's rows, in row order
 unfoldable pub judged : List Detail → Reads → Reads
 judged [] r = r
-judged (d ∷ ds) r = elim d.value [ Known x ↦ judged ds r | Refused n ↦ refuse n (value_place d) ]
+judged (d ∷ ds) r = elim d.value [ Ok x ↦ judged ds r | Err fault ↦ refuse (number_of fault) (value_place d) ]
 
 -- 3 stands at its group, 4 and 5 at the entry's start
 unfoldable pub settled : List ℕ → Ans Form → Reads
 settled s (To n f) = judged f.details (got n (rows_of s n f))
 settled s Miss = refuse 5 0
-settled s (Hard k p) = refuse k (cond (eqb k deep_number) p 0)
+settled s (Hard Cause.TooDeep p) = refuse (cause_number too_deep) p
+settled s (Hard Cause.Missing p) = refuse (cause_number missing) 0
 
 unfoldable pub entry_of : List ℕ → Reads
 entry_of s = settled s (form_of s)

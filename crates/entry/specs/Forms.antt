@@ -5,7 +5,7 @@ use Rattle.text.specs.Bytes.{in_line}
 use Rattle.text.specs.Run.{run_to}
 use Rattle.text.specs.Answer.{Ans, To, Miss, Hard, ◌then◌, ◌else◌}
 use Rattle.text.specs.Leaves.{hard_gap, date}
-use Rattle.text.specs.Refusals.{word_gap_number}
+use Rattle.text.specs.Refusals.{missing_gap}
 use Rattle.amount.specs.Kinds.{blank_kind, option_kind, include_kind, pushtag_kind, poptag_kind, transaction_kind, price_kind, balance_kind, open_kind, close_kind, pad_kind, commodity_kind, event_kind}
 use Rattle.amount.specs.declared.detail.Detail.{Detail}
 use Rattle.amount.specs.Details.{Rows}
@@ -40,7 +40,7 @@ dateless d s g =
 
 -- Directive: date, gap (hard), and that.
 unfoldable pub directive : List ℕ → Ans Form
-directive s = date s 0 then λ e d. hard_gap {A = Detail} word_gap_number s e then λ g _. dateless d s g
+directive s = date s 0 then λ e d. hard_gap {A = Detail} missing_gap s e then λ g _. dateless d s g
 
 -- a line up to and with its LF or CRLF (a CR stands only before an LF): end of ledger doesn't end one
 unfoldable pub blank : List ℕ → Ans Form

@@ -5,7 +5,7 @@ use Rattle.text.specs.Bytes.{bytes, between}
 use Rattle.text.specs.Every.{Every}
 use Rattle.text.specs.Answer.{To, Miss, Hard, ◌then◌, ◌and◌}
 use Rattle.text.specs.Leaves.{hard_gap, date, word, line_end}
-use Rattle.text.specs.Refusals.{word_gap_number}
+use Rattle.text.specs.Refusals.{missing_gap}
 use Rattle.text.specs.Boundaries.{holds}
 use Rattle.amount.specs.Kinds.{first_detail, payee_kind, narration_kind, booking_kind, string_kind, string_meta_kind}
 use Rattle.amount.specs.declared.detail.Detail.{Detail}
@@ -32,7 +32,7 @@ unless (Hard k p) a = Miss
 -- date, gap, `event`, gap, content, and no line end: the content's rows, one for each string
 unfoldable pub lost_event : List ℕ → Rows
 lost_event t =
-    date t 0 then λ a _. hard_gap word_gap_number t a and λ b. word (bytes "event") t b and λ c. hard_gap word_gap_number t c and λ d.
+    date t 0 then λ a _. hard_gap missing_gap t a and λ b. word (bytes "event") t b and λ c. hard_gap missing_gap t c and λ d.
     event_of t d then λ e rs. unless (line_end t e) (To e rs)
 
 unfoldable pub spans : List ℕ → Rows → List (List ℕ)

@@ -11,260 +11,201 @@ ghost use Rattle.entry.specs.steps.Settled.{settled_entry, settled_table, entry_
 
 use crate::directive;
 use crate::directive::Formed;
-use amount::detail::{Detail, One};
+use amount::detail::Detail;
 use amount::{detail, kind};
 use row::table::Row;
-use row::writer::{Out, Ran};
+use row::writer::Out;
 use row::{table, writer};
 use text::run::Class;
-use text::{Read, line, refusal, run, string, tag, word};
+use text::stop::{Cause, Reading, Refused, Stop};
+use text::{line, run, stop, string, tag, word};
 
-// An entry of a kind, of so many bytes and rows; or a refusal's number and place.
+// An entry that was read: its kind, and how many bytes and rows it has.
 #[derive(Clone, Copy)]
-pub enum Entry {
-    Read(usize, usize, usize),
-    Refused(usize, usize),
+pub struct Entry {
+    pub kind: usize,
+    pub size: usize,
+    pub rows: usize,
 }
 
 // Gap and string.
-fn gap_quoted(s: &[u8], at: usize) -> One
+fn gap_quoted(s: &[u8], at: usize) -> Reading<Detail>
     ensures { result ≡ one_of (gap_quoted s.now at) }
 {
-    let g = line::gap(s, at);
-    match g {
-        Read::To(j) => {
-            let x = string::string(s, j);
-            match x {
-                Read::To(e) => One::Read(e, detail::named(kind::STRING, j + 1, e - 1, 0, 0)),
-                Read::Miss => One::Miss,
-            }
-        }
-        Read::Miss => One::Miss,
-    }
+    let j = line::gap(s, at).ok_or(Stop::Miss)?;
+    let e = string::string(s, j).ok_or(Stop::Miss)?;
+    Ok((e, detail::named(kind::STRING, j + 1, e - 1, 0, 0)))
 }
 
 // After an option's first string, whose row is x: gap, string, line end.
-fn option_end(s: &[u8], at: usize, x: Detail, base: usize, table: &mut [u8], out: Out) -> Ran
+fn option_end(
+    s: &[u8],
+    at: usize,
+    x: Detail,
+    base: usize,
+    table: &mut [u8],
+    out: Out,
+) -> Reading<Out>
     requires { Writable 2 base out }
     ensures { Did base (option_end x s.now at) out table.old table.new result }
 {
-    let b = gap_quoted(s, at);
-    match b {
-        One::Read(f, y) => {
-            let l = line::line_end(s, f);
-            match l {
-                Read::To(g) => {
-                    let o = writer::emit(table, base, out, x);
-                    let p = writer::emit(table, base, o, y);
-                    Ran::To(g, p)
-                }
-                Read::Miss => Ran::Miss,
-            }
-        }
-        One::Miss => Ran::Miss,
-        One::Hard(k, p) => Ran::Hard(k, p),
-    }
+    let (f, y) = gap_quoted(s, at)?;
+    let g = line::line_end(s, f).ok_or(Stop::Miss)?;
+    let o = writer::emit(table, base, out, x);
+    Ok((g, writer::emit(table, base, o, y)))
 }
 
 // After `option`: gap, string, gap, string, line end; all plain misses.
-fn option_at(s: &[u8], at: usize, base: usize, table: &mut [u8], out: Out) -> Ran
+fn option_at(s: &[u8], at: usize, base: usize, table: &mut [u8], out: Out) -> Reading<Out>
     requires { Writable 2 base out }
     ensures { Did base (option_of s.now at) out table.old table.new result }
 {
-    let a = gap_quoted(s, at);
-    match a {
-        One::Read(e, x) => option_end(s, e, x, base, table, out),
-        One::Miss => Ran::Miss,
-        One::Hard(k, p) => Ran::Hard(k, p),
-    }
+    let (e, x) = gap_quoted(s, at)?;
+    option_end(s, e, x, base, table, out)
 }
 
 // An include's string, line end; both required.
-fn include_end(s: &[u8], at: usize, base: usize, table: &mut [u8], out: Out) -> Ran
+fn include_end(s: &[u8], at: usize, base: usize, table: &mut [u8], out: Out) -> Reading<Out>
     requires { Writable 2 base out }
     ensures { Did base (include_end s.now at) out table.old table.new result }
 {
-    let x = content::content::required_string(s, at, base, table, out);
-    match x {
-        Ran::To(e, o) => {
-            let l = line::line_end(s, e);
-            match l {
-                Read::To(f) => Ran::To(f, o),
-                Read::Miss => Ran::Hard(refusal::REQUIRED, e),
-            }
-        }
-        Ran::Miss => Ran::Miss,
-        Ran::Hard(k, p) => Ran::Hard(k, p),
-    }
+    let (e, o) = content::content::required_string(s, at, base, table, out)?;
+    let f = line::line_end(s, e).ok_or(Stop::Hard(Cause::Missing, e))?;
+    Ok((f, o))
 }
 
 // After `include`: gap, string, line end; all required.
-fn include_at(s: &[u8], at: usize, base: usize, table: &mut [u8], out: Out) -> Ran
+fn include_at(s: &[u8], at: usize, base: usize, table: &mut [u8], out: Out) -> Reading<Out>
     requires { Writable 2 base out }
     ensures { Did base (include_of s.now at) out table.old table.new result }
 {
-    let g = line::gap(s, at);
-    match g {
-        Read::To(j) => include_end(s, j, base, table, out),
-        Read::Miss => Ran::Hard(refusal::WORD_GAP, at),
-    }
+    let j = line::gap(s, at).ok_or(Stop::Hard(Cause::Missing, at))?;
+    include_end(s, j, base, table, out)
 }
 
 // After `pushtag` or `poptag`: gap, tag. What is left of the line is the next entry.
-fn tagged_at(s: &[u8], at: usize, base: usize, table: &mut [u8], out: Out) -> Ran
+fn tagged_at(s: &[u8], at: usize, base: usize, table: &mut [u8], out: Out) -> Reading<Out>
     requires { Writable 2 base out }
     ensures { Did base (tag_of s.now at) out table.old table.new result }
 {
-    let g = line::gap(s, at);
-    match g {
-        Read::To(j) => {
-            let t = tag::tag(s, j);
-            match t {
-                Read::To(e) => {
-                    let o = writer::emit(
-                        table,
-                        base,
-                        out,
-                        detail::named(kind::TAG, j + 1, e, 0, 0),
-                    );
-                    Ran::To(e, o)
-                }
-                Read::Miss => Ran::Miss,
-            }
-        }
-        Read::Miss => Ran::Miss,
-    }
+    let j = line::gap(s, at).ok_or(Stop::Miss)?;
+    let e = tag::tag(s, j).ok_or(Stop::Miss)?;
+    let d = detail::named(kind::TAG, j + 1, e, 0, 0);
+    Ok((e, writer::emit(table, base, out, d)))
 }
 
 // A line up to and with its line feed: end of ledger doesn't end one.
-fn blank_at(s: &[u8], out: Out) -> Formed
+fn blank_at(s: &[u8], out: Out) -> Reading<Formed>
     ensures { result ≡ blank_formed s.now out }
 {
     let e = run::run(s, 0, Class::Line);
     if e < s.len() {
-        return Formed::Read(kind::BLANK, 0, e + 1, out);
+        return Ok((
+            e + 1,
+            Formed {
+                kind: kind::BLANK,
+                date: 0,
+                out,
+            },
+        ));
     }
-    Formed::Miss
+    Err(Stop::Miss)
 }
 
-fn poptag_at(s: &[u8], base: usize, table: &mut [u8], out: Out) -> Formed
+fn poptag_at(s: &[u8], base: usize, table: &mut [u8], out: Out) -> Reading<Formed>
     requires { Readable base s.now 0 out }
     ensures { DidForm base (poptag_form s.now) out table.old table.new result }
 {
-    let w = word::word(s, 0, b"poptag");
-    match w {
-        Read::To(e) => {
-            let r = tagged_at(s, e, base, table, out);
-            directive::formed_as(kind::POPTAG, 0, r)
-        }
-        Read::Miss => Formed::Miss,
-    }
+    let e = word::word(s, 0, b"poptag").ok_or(Stop::Miss)?;
+    directive::formed_as(kind::POPTAG, 0, tagged_at(s, e, base, table, out))
 }
 
-fn pushtag_at(s: &[u8], base: usize, table: &mut [u8], out: Out) -> Formed
+fn pushtag_at(s: &[u8], base: usize, table: &mut [u8], out: Out) -> Reading<Formed>
     requires { Readable base s.now 0 out }
     ensures { DidForm base (pushtag_form s.now) out table.old table.new result }
 {
-    let w = word::word(s, 0, b"pushtag");
-    match w {
-        Read::To(e) => {
-            let r = tagged_at(s, e, base, table, out);
-            directive::formed_as(kind::PUSHTAG, 0, r)
-        }
-        Read::Miss => poptag_at(s, base, table, out),
+    match word::word(s, 0, b"pushtag") {
+        Some(e) => directive::formed_as(kind::PUSHTAG, 0, tagged_at(s, e, base, table, out)),
+        None => poptag_at(s, base, table, out),
     }
 }
 
-fn include_form(s: &[u8], base: usize, table: &mut [u8], out: Out) -> Formed
+fn include_form(s: &[u8], base: usize, table: &mut [u8], out: Out) -> Reading<Formed>
     requires { Readable base s.now 0 out }
     ensures { DidForm base (include_form s.now) out table.old table.new result }
 {
-    let w = word::word(s, 0, b"include");
-    match w {
-        Read::To(e) => {
-            let r = include_at(s, e, base, table, out);
-            directive::formed_as(kind::INCLUDE, 0, r)
-        }
-        Read::Miss => pushtag_at(s, base, table, out),
+    match word::word(s, 0, b"include") {
+        Some(e) => directive::formed_as(kind::INCLUDE, 0, include_at(s, e, base, table, out)),
+        None => pushtag_at(s, base, table, out),
     }
 }
 
 // Option, include, pushtag or poptag: no two of the words start alike.
-fn option_form(s: &[u8], base: usize, table: &mut [u8], out: Out) -> Formed
+fn option_form(s: &[u8], base: usize, table: &mut [u8], out: Out) -> Reading<Formed>
     requires { Readable base s.now 0 out }
     ensures { DidForm base (option_form s.now) out table.old table.new result }
 {
-    let w = word::word(s, 0, b"option");
-    match w {
-        Read::To(e) => {
-            let r = option_at(s, e, base, table, out);
-            directive::formed_as(kind::OPTION, 0, r)
-        }
-        Read::Miss => include_form(s, base, table, out),
+    match word::word(s, 0, b"option") {
+        Some(e) => directive::formed_as(kind::OPTION, 0, option_at(s, e, base, table, out)),
+        None => include_form(s, base, table, out),
     }
 }
 
-fn undated_at(s: &[u8], base: usize, table: &mut [u8], out: Out) -> Formed
+fn undated_at(s: &[u8], base: usize, table: &mut [u8], out: Out) -> Reading<Formed>
     requires { Readable base s.now 0 out }
     ensures { DidForm base (undated s.now) out table.old table.new result }
 {
-    let x = option_form(s, base, table, out);
-    match x {
-        Formed::Read(k, d, e, o) => Formed::Read(k, d, e, o),
-        Formed::Miss => blank_at(s, out),
-        Formed::Hard(k, p) => Formed::Hard(k, p),
+    match option_form(s, base, table, out) {
+        Err(Stop::Miss) => blank_at(s, out),
+        form => form,
     }
 }
 
 // Rule 1. Directive, option, include, pushtag or poptag, else a line.
-fn form_at(s: &[u8], base: usize, table: &mut [u8], out: Out) -> Formed
+fn form_at(s: &[u8], base: usize, table: &mut [u8], out: Out) -> Reading<Formed>
     requires { Readable base s.now 0 out }
     ensures { DidForm base (form_of s.now) out table.old table.new result }
 {
-    let x = directive::directive_at(s, base, table, out);
-    match x {
-        Formed::Read(k, d, e, o) => Formed::Read(k, d, e, o),
-        Formed::Miss => undated_at(s, base, table, out),
-        Formed::Hard(k, p) => Formed::Hard(k, p),
+    match directive::directive_at(s, base, table, out) {
+        Err(Stop::Miss) => undated_at(s, base, table, out),
+        form => form,
     }
 }
 
 // A form that was read, its details written: its own row goes to the front, unless a value is refused.
-fn settled_at(
-    table: &mut [u8],
-    base: usize,
-    kind: usize,
-    date: usize,
-    end: usize,
-    out: Out,
-) -> Entry
-    requires { (base ≤ size_limit) × (end ≤ size_limit) × (out.rows ≤ size_limit) }
-    ensures value { result ≡ settled_entry kind end out }
-    ensures table_after { table.new ≡ settled_table base kind date end out table.old }
+fn settled_at(table: &mut [u8], base: usize, end: usize, form: Formed) -> Result<Entry, Refused>
+    requires { (base ≤ size_limit) × (end ≤ size_limit) × (form.out.rows ≤ size_limit) }
+    ensures value { result ≡ settled_entry form.kind end form.out }
+    ensures table_after { table.new ≡ settled_table base form.kind form.date end form.out table.old }
 {
-    let bad = out.bad;
-    let q = out.rows;
-    if bad == 0 {
-        table::put_front(
-            table,
-            Row {
+    let Formed { kind, date, out } = form;
+    match out.refused {
+        Some((fault, place)) => Err(stop::refused_at(usize::from(fault), place)),
+        None => {
+            table::put_front(
+                table,
+                Row {
+                    kind,
+                    start: base,
+                    end: base + end,
+                    line: 0,
+                    p: date,
+                    q: out.rows,
+                    bits: 0,
+                },
+            );
+            Ok(Entry {
                 kind,
-                start: base,
-                end: base + end,
-                line: 0,
-                p: date,
-                q,
-                bits: 0,
-            },
-        );
-        return Entry::Read(kind, end, q + 1);
+                size: end,
+                rows: out.rows + 1,
+            })
+        }
     }
-    Entry::Refused(bad - 1, out.place)
 }
 
 // The entry at the front of s, which starts at `base`; its rows go to the front of the table, where they fit. A
 // refusal's place counts from the entry's start: 3 stands at its group, 4 and 5 at the entry's start.
-pub fn entry_at(s: &[u8], base: usize, table: &mut [u8]) -> Entry
+pub fn entry_at(s: &[u8], base: usize, table: &mut [u8]) -> Result<Entry, Refused>
     requires { (base ≤ size_limit) × (length s.now ≤ size_limit) }
     ensures value { result ≡ entry_answer (entry_of s.now) }
     ensures entry_poured { EntryPoured (entry_of s.now) base s.now table.old table.new }
@@ -272,19 +213,12 @@ pub fn entry_at(s: &[u8], base: usize, table: &mut [u8]) -> Entry
     let k = table::place(1, table.len());
     let out = Out {
         rows: 0,
-        bad: 0,
-        place: 0,
+        refused: None,
     };
-    let f = form_at(s, base, &mut table[k..], out);
-    match f {
-        Formed::Read(kind, date, end, o) => settled_at(table, base, kind, date, end, o),
-        Formed::Miss => Entry::Refused(5, 0),
-        Formed::Hard(n, p) => {
-            if n == refusal::DEEP {
-                Entry::Refused(refusal::DEEP, p)
-            } else {
-                Entry::Refused(n, 0)
-            }
-        }
+    match form_at(s, base, &mut table[k..], out) {
+        Ok((end, form)) => settled_at(table, base, end, form),
+        Err(Stop::Miss) => Err(stop::refused_at(stop::NO_ENTRY, 0)),
+        Err(Stop::Hard(Cause::TooDeep, p)) => Err(stop::refused_at(usize::from(Cause::TooDeep), p)),
+        Err(Stop::Hard(Cause::Missing, _)) => Err(stop::refused_at(usize::from(Cause::Missing), 0)),
     }
 }

@@ -1,4 +1,6 @@
 -- A balance: what was read is written so that it reads again.
+use Rattle.decimal.specs.Faults.{Value}
+use Rattle.std.specs.Prelude.{Ok}
 use Prim.Native.Nat.{ℕ, ◌+◌}
 use native.Mathlib.Omega.{arith}
 use mathlib.Core.Path.{◌≡◌, refl, sym, ◌∙◌, ap, subst}
@@ -10,8 +12,6 @@ use lib.Dec.{eqb}
 use lib.ListN.{length, get_or, drop}
 use Rattle.decimal.specs.Exact.{whole_of, twos_of, decimal_of}
 use Rattle.decimal.specs.declared.Decimal.{Decimal}
-use Rattle.decimal.specs.declared.Value.{Value}
-use Rattle.decimal.specs.declared.Value.TheVariants.{Known}
 use Rattle.text.specs.Bytes.{is_blank, bytes, is_capital, between}
 use Rattle.text.specs.Run.{blanks}
 use Rattle.text.specs.Answer.{To, Miss, ◌then◌, ◌and◌, must, maybe}
@@ -21,7 +21,7 @@ use Rattle.text.proofs.Inversions.{and_inv, must_inv, then_inv, maybe_inv, to_in
 use Rattle.text.proofs.TestLaws.{differ}
 use Rattle.text.specs.Every.{Every}
 use Rattle.text.proofs.EveryLaws.{every_right}
-use Rattle.text.specs.Refusals.{required_number}
+use Rattle.text.specs.Refusals.{missing}
 use Rattle.amount.specs.Details.{valued}
 use Rattle.amount.specs.Expression.{expression}
 use Rattle.amount.specs.declared.detail.Detail.{Detail}
@@ -50,7 +50,7 @@ pub data Tolerance : List Item → Type 0 where
   exact : Tolerance []
   within : (v : ℕ) → Form v → Tolerance (tol_item v ∷ [])
 
-tol_item_lem : (s : List ℕ) (b e : ℕ) (x : Decimal) → item_d s (valued 27 b e 0 0 (Known x)) ≡ tol_item (twos_of (whole_of x))
+tol_item_lem : (s : List ℕ) (b e : ℕ) (x : Decimal) → item_d s (valued 27 b e 0 0 (Ok x)) ≡ tol_item (twos_of (whole_of x))
 unfolding texted naming spanned millionths
 tol_item_lem s b e x = refl
 
@@ -100,7 +100,7 @@ pub record Balance (ms : List Item) : Type 0 where
   pub good_tol : Tolerance tol
   pub is : ms ≡ text_item 25 account ∷ sum_item 26 value currency ∷ tol
 
-sum_item_lem : (s : List ℕ) (a e p q : ℕ) (x : Decimal) → item_d s (valued 26 a e p q (Known x)) ≡ sum_item 26 (twos_of (whole_of x)) (between s p q)
+sum_item_lem : (s : List ℕ) (a e p q : ℕ) (x : Decimal) → item_d s (valued 26 a e p q (Ok x)) ≡ sum_item 26 (twos_of (whole_of x)) (between s p q)
 unfolding texted naming spanned millionths
 sum_item_lem s a e p q x = refl
 
@@ -108,33 +108,33 @@ balance_was : Was balance_of Balance
 unfolding balance_of
 balance_was s i j t rs T A h f =
     let a = and_inv (hard_account s i) _ j rs h in
-    let b = and_inv (hard_gap required_number s a.0) _ j a.2 a.4 in
-    let c = then_inv (must required_number b.0 (expression s b.0)) _ j b.2 b.4 in
+    let b = and_inv (hard_gap missing s a.0) _ j a.2 a.4 in
+    let c = then_inv (must missing b.0 (expression s b.0)) _ j b.2 b.4 in
     let d = then_inv (maybe c.0 (tolerance s c.0)) _ j b.2 c.3 in
-    let e = and_inv (hard_gap required_number s d.0) _ j b.2 d.3 in
-    let k = and_inv (must required_number e.0 (currency s e.0)) _ j e.2 e.4 in
+    let e = and_inv (hard_gap missing s d.0) _ j b.2 d.3 in
+    let k = and_inv (must missing e.0 (currency s e.0)) _ j e.2 e.4 in
     let l = to_inv k.0 j _ k.2 k.4 in
     let g = subst (Every Fine) a.5 f in
     let H = hard_account_was A a.3 in
-    let B = hard_gap_was required_number H.place b.3 in
-    let x = must_inv required_number b.0 (expression s b.0) c.0 c.1 c.2 in
+    let B = hard_gap_was missing H.place b.3 in
+    let x = must_inv missing b.0 (expression s b.0) c.0 c.1 c.2 in
     let X = reached (expression_reach s b.0) x in
     let p = b.5 ∙ ap (λ z. z ++ b.2) B.0 in
-    let Y = hard_gap_empty required_number s d.0 e.0 e.1 e.3 in
+    let Y = hard_gap_empty missing s d.0 e.0 e.1 e.3 in
     let q = e.5 ∙ ap (λ z. z ++ e.2) Y in
-    let cu = must_inv required_number e.0 (currency s e.0) k.0 k.1 k.3 in
+    let cu = must_inv missing e.0 (currency s e.0) k.0 k.1 k.3 in
     let w = k.5 ∙ ap (λ z. z ++ k.2) (currency_empty s e.0 k.0 k.1 cu) ∙ l.1 ∙ ap (λ z. valued 26 b.0 c.0 e.0 z c.1 ∷ d.1) l.0 in
     built s j b.0 c.0 e.0 d.0 a.1 a.2 d.1 c.1 H.is x X d.2 e.3 (subst (λ z. currency s e.0 ≡ To z k.1) l.0 cu)
     (p ∙ q ∙ w) rs a.5 (every_right Fine a.1 a.2 g)
   where
     built : (s : List ℕ) (j g e c u : ℕ) (fs bs ts : List Detail) (v : Value) → IsText Account 25 (items s fs) → expression s g ≡ To e v → At s e (drop e s)
-        → maybe e (tolerance s e) ≡ To u ts → {zs : List Detail} → hard_gap required_number s u ≡ To c zs → {ws : List Detail} → currency s c ≡ To j ws → bs ≡ valued 26 g e c j v ∷ ts
+        → maybe e (tolerance s e) ≡ To u ts → {zs : List Detail} → hard_gap missing s u ≡ To c zs → {ws : List Detail} → currency s c ≡ To j ws → bs ≡ valued 26 g e c j v ∷ ts
         → (rs : List Detail) → rs ≡ fs ++ bs → Every Fine bs → There s j rs Balance
     built s j g e c u fs bs ts v a x X m hg hc q rs r f =
         let y = subst (Every Fine) q f in
         let z = y.0 in
         let M = maybe_tolerance_was s e u ts y.1 X m in
-        let G = hard_gap_was required_number M.1 hg in
+        let G = hard_gap_was missing M.1 hg in
         let C = currency_was G.1 hc in
         record {
           rest = C.0;
@@ -150,7 +150,7 @@ balance_was s i j t rs T A h f =
             good_tol = M.2;
             is =
                 ap (items s) (r ∙ ap (λ z. fs ++ z) (q ∙ ap (λ w. valued 26 g e c j w ∷ ts) z.1)) ∙ items_append s fs _
-                ∙ ap (λ m. m ++ items s (valued 26 g e c j (Known z.0) ∷ ts)) a.2 ∙ ap (λ m. text_item 25 a.0 ∷ m ∷ items s ts) (sum_item_lem s g e c j z.0);
+                ∙ ap (λ m. m ++ items s (valued 26 g e c j (Ok z.0) ∷ ts)) a.2 ∙ ap (λ m. text_item 25 a.0 ∷ m ∷ items s ts) (sum_item_lem s g e c j z.0);
           };
         }
 
@@ -185,15 +185,15 @@ module _ (s : List ℕ) (w : List ℕ) (C : Currency w) (post : List ℕ) (F : A
   abbrev x : Decimal
   x = decimal_of W.minus W.size
 
-  tail_is : (ts : List Item) → expression s g ≡ To e (Known x) → Reads s (maybe e (tolerance s e)) ts (32 ∷ (w ++ post))
-      → Reads s (must required_number g (expression s g) then λ e v. maybe e (tolerance s e) then λ t us. hard_gap required_number s t and λ c. must required_number c (currency s c) and λ d. To d (valued 26 g e c d v ∷ us))
+  tail_is : (ts : List Item) → expression s g ≡ To e (Ok x) → Reads s (maybe e (tolerance s e)) ts (32 ∷ (w ++ post))
+      → Reads s (must missing g (expression s g) then λ e v. maybe e (tolerance s e) then λ t us. hard_gap missing s t and λ c. must missing c (currency s c) and λ d. To d (valued 26 g e c d v ∷ us))
       (sum_item 26 v w ∷ ts) post
   unfolding must
   tail_is ts E R =
-      then_reads _ {x = Known x} (rw E) (then_reads _ R.eq (skip_reads (hard_gap_is required_number (currency_blank w post C) R.rest) (λ c G.
-      skip_reads (must_reads required_number c (currency_is w post C F G)) (λ d D. record {
+      then_reads _ {x = Ok x} (rw E) (then_reads _ R.eq (skip_reads (hard_gap_is missing (currency_blank w post C) R.rest) (λ c G.
+      skip_reads (must_reads missing c (currency_is w post C F G)) (λ d D. record {
         to = d;
-        rows = valued 26 g e c d (Known x) ∷ R.rows;
+        rows = valued 26 g e c d (Ok x) ∷ R.rows;
         eq = refl;
         rest = D;
         same =
@@ -225,7 +225,7 @@ module _ (w : List ℕ) (C : Currency w) (v : ℕ) (W : Form v) where
   tail_last ts (within y F) = tol_item y
 
   tail_reads : (ts : List Item) (T : Tolerance ts) (s : List ℕ) (g : ℕ) (post : List ℕ) → After post → At s g (tail_text ts T ++ post)
-      → Reads s (must required_number g (expression s g) then λ e v. maybe e (tolerance s e) then λ t us. hard_gap required_number s t and λ c. must required_number c (currency s c) and λ d. To d (valued 26 g e c d v ∷ us))
+      → Reads s (must missing g (expression s g) then λ e v. maybe e (tolerance s e) then λ t us. hard_gap missing s t and λ c. must missing c (currency s c) and λ d. To d (valued 26 g e c d v ∷ us))
       (sum_item 26 v w ∷ ts) post
   unfolding tail_text
   tail_reads ts exact s g post F A =
@@ -269,7 +269,7 @@ balance_anew s i j t rs T A h f = there_map (λ ks B.
       starts = λ x. rw (append_assoc w (32 ∷ u) x) (account_blank w (32 ∷ (u ++ x)) B.good_account);
       reads = λ s i x A.
           and_reads (text_item 25 w ∷ []) ms (hard_account_is w (32 ∷ (u ++ (10 ∷ x))) B.good_account (after_space _) (at_more w (32 ∷ u) (10 ∷ x) A)) (λ a D.
-          skip_reads (hard_gap_is required_number (tail_blank B.currency B.good_currency B.value B.good_value B.tol T (10 ∷ x)) D) (λ g G.
+          skip_reads (hard_gap_is missing (tail_blank B.currency B.good_currency B.value B.good_value B.tol T (10 ∷ x)) D) (λ g G.
           tail_reads B.currency B.good_currency B.value B.good_value B.tol T s g (10 ∷ x) (after_line x) G));
       prints = λ k prev ds e f g.
           print_account k prev (ms ++ ds) w

@@ -13,7 +13,7 @@ use Rattle.text.proofs.Inversions.{and_inv, must_inv}
 use Rattle.text.specs.Every.{Every}
 use Rattle.text.proofs.EveryLaws.{every_left, every_right}
 use Rattle.text.specs.Leaves.{hard_gap}
-use Rattle.text.specs.Refusals.{required_number}
+use Rattle.text.specs.Refusals.{missing}
 use Rattle.amount.specs.Details.{Rows}
 use Rattle.amount.specs.Amounts.{hard_currency, hard_amount, price_of}
 use Rattle.amount.specs.declared.detail.Detail.{Detail}
@@ -115,24 +115,24 @@ Was R G = (s : List ℕ) (i j : ℕ) (t : List ℕ) (rs : List Detail) → Tidy 
 -- one part, a gap, and another
 module _ (P Q : List ℕ → ℕ → Rows) where
   abbrev Pair : List ℕ → ℕ → Rows
-  Pair s at = P s at and λ a. hard_gap required_number s a and λ g. Q s g
+  Pair s at = P s at and λ a. hard_gap missing s a and λ g. Q s g
 
   pair_was : (G H : List Item → Type 0)
       → Was P G → Was Q H → (s : List ℕ) (i j : ℕ) (t : List ℕ) (rs : List Detail) → Tidy s → At s i t → Pair s i ≡ To j rs → Every Fine rs
       → There s j rs (λ ks. (ms : List Item) × (ns : List Item) × G ms × H ns × (ks ≡ ms ++ ns))
   pair_was G H p q s i j t rs T A h f =
       let a = and_inv (P s i) _ j rs h in
-      let b = and_inv (hard_gap required_number s a.0) _ j a.2 a.4 in
+      let b = and_inv (hard_gap missing s a.0) _ j a.2 a.4 in
       let g = subst (Every Fine) a.5 f in
       let Z = p s i a.0 t a.1 T A a.3 (every_left Fine a.1 a.2 g) in
-      let B = hard_gap_was required_number Z.place b.3 in
+      let B = hard_gap_was missing Z.place b.3 in
       let e = b.5 ∙ ap (λ z. z ++ b.2) B.0 in
       let U = q s b.0 j _ b.2 T B.1 b.4 (subst (Every Fine) e (every_right Fine a.1 a.2 g)) in
       record { rest = U.rest; place = U.place; is = (items s a.1, items s b.2, Z.is, U.is, ap (items s) (a.5 ∙ ap (λ z. a.1 ++ z) e) ∙ items_append s a.1 b.2) }
 
   pair_is : (s : List ℕ) (i : ℕ) (ms ns : List Item) (t u post : List ℕ) → ((i : ℕ) → At s i (t ++ (32 ∷ (u ++ post))) → Reads s (P s i) ms (32 ∷ (u ++ post)))
       → ((i : ℕ) → At s i (u ++ post) → Reads s (Q s i) ns post) → is_blank (get_or (u ++ post) 0 0) ≡ false → At s i (t ++ (32 ∷ (u ++ post))) → Reads s (Pair s i) (ms ++ ns) post
-  pair_is s i ms ns t u post p q b A = and_reads ms ns (p i A) (λ a B. skip_reads (hard_gap_is required_number b B) (λ g C. q g C))
+  pair_is s i ms ns t u post p q b A = and_reads ms ns (p i A) (λ a B. skip_reads (hard_gap_is missing b B) (λ g C. q g C))
 
 -- two parts as one content
 pair_again : {R : List ℕ → ℕ → Rows} (m n : Item) (t u : List ℕ) → Neat t → Neat u → ((x : List ℕ) → is_blank (get_or (t ++ x) 0 0) ≡ false)
@@ -154,11 +154,11 @@ string_kind_lem = (refl, refl)
 
 pub hard_string_was : Was hard_string (IsText (Phrase) 34)
 unfolding hard_string
-hard_string_was s i j t rs T A h f = quoted_was 34 string_kind_lem T A (must_inv required_number i _ j rs h)
+hard_string_was s i j t rs T A h f = quoted_was 34 string_kind_lem T A (must_inv missing i _ j rs h)
 
 pub hard_string_is : (s : List ℕ) (i : ℕ) (w post : List ℕ) → Phrase w → At s i (quotes w ++ post) → Reads s (hard_string s i) (text_item 34 w ∷ []) post
 unfolding hard_string
-hard_string_is s i w post C A = must_reads required_number i (quoted_is 34 string_kind_lem w post C A)
+hard_string_is s i w post C A = must_reads missing i (quoted_is 34 string_kind_lem w post C A)
 
 pub quote_blank : (w t : List ℕ) → is_blank (get_or (quotes w ++ t) 0 0) ≡ false
 unfolding quotes is_blank

@@ -1,4 +1,7 @@
 -- Entry by entry: if each entry is written so that it reads again before what follows, the ledger is.
+use Rattle.decimal.specs.Faults.{Value, number_of}
+use Rattle.decimal.specs.declared.Fault.{Fault}
+use Rattle.std.specs.Prelude.{Err, Ok}
 use Prim.Native.Nat.{ℕ, zero, suc, ◌+◌, ◌-◌, ◌≤◌, ◌<◌}
 use native.Mathlib.Omega.{arith}
 use mathlib.Core.Path.{◌≡◌, refl, sym, ◌∙◌, ap, ap₂, subst}
@@ -10,8 +13,6 @@ use lib.IntN.{pos}
 use lib.ListN.{length, get_or, take, drop, length-append, take-append-drop, length-take, length-drop}
 use lib.Seq.{drop-drop}
 use Rattle.decimal.specs.Exact.{twos_of}
-use Rattle.decimal.specs.declared.Value.{Value}
-use Rattle.decimal.specs.declared.Value.TheVariants.{Known, Refused}
 use Rattle.text.specs.Bytes.{in_tag, between}
 use Rattle.text.specs.Permitted.{clean, size_limit}
 use Rattle.text.specs.Answer.{To, Miss}
@@ -142,10 +143,10 @@ unfolding judged
 fine_judged [] r n rs e = tt
 fine_judged (d ∷ ds) r n rs e = go d.value refl e (fine_judged ds r n rs)
   where
-    go : (v : Value) → d.value ≡ v → elim v as (λ _. Reads) [ Known x ↦ judged ds r | Refused m ↦ refuse m (value_place d) ] ≡ got n rs → (judged ds r ≡ got n rs → Every Fine ds)
+    go : (v : Value) → d.value ≡ v → elim v as (λ _. Reads) [ Ok x ↦ judged ds r | Err m ↦ refuse (number_of m) (value_place d) ] ≡ got n rs → (judged ds r ≡ got n rs → Every Fine ds)
         → Fine d × Every Fine ds
-    go (Known x) p e ih = ((x, p), ih e)
-    go (Refused m) p e ih = absurd (let z : ◌≡◌ {A = ℕ} 0 1 = cc in omega arith)
+    go (Ok x) p e ih = ((x, p), ih e)
+    go (Err m) p e ih = absurd (let z : ◌≡◌ {A = ℕ} 0 1 = cc in omega arith)
 
 entry_fine : (s : List ℕ) (n : ℕ) (f : Form) (rs : List Row) → form_of s ≡ To n f → entry_of s ≡ got n rs → Every Fine f.details
 unfolding entry_of settled

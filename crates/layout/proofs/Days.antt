@@ -1,4 +1,5 @@
 -- A date's text reads back as the date.
+use Rattle.std.specs.Prelude.{None, Some}
 use Prim.Native.Nat.{ℕ, ◌+◌, ◌*◌, ◌/◌, ◌%◌}
 use native.Mathlib.Omega.{arith}
 use mathlib.Core.Path.{◌≡◌, refl, ap}
@@ -11,7 +12,6 @@ use Rattle.text.specs.Bytes.{is_digit}
 use Rattle.text.specs.Dates.{as_shape, like_shape, date_shape, two, date_in, date_at}
 use Rattle.text.specs.Answer.{To}
 use Rattle.text.specs.Leaves.{date, dated}
-use Rattle.text.specs.declared.date.Dated.{Dated}
 use Rattle.text.proofs.DayLaws.{Day}
 use Rattle.text.proofs.Ats.{At, at_far}
 use Rattle.layout.specs.Written.{digit, date_text}
@@ -60,7 +60,7 @@ module _ (s : List ℕ) (i p : ℕ) (D : Day p) (post : List ℕ) (A : At s i (d
       (omega arith) (omega arith) (omega arith))
     where
       rest : (m d x y : ℕ) → m ≡ p / 100 % 100 → d ≡ p % 100 → x ≡ p / 1000000 → y ≡ p / 10000 % 100
-          → dated (cond (leb 1 m && leb m 12 && leb 1 d && leb d 31) (Dated.On (i + 10) (x * 1000000 + y * 10000 + m * 100 + d)) Dated.Miss) ≡ To (i + 10) p
+          → dated (cond (leb 1 m && leb m 12 && leb 1 d && leb d 31) (Some ((i + 10), (x * 1000000 + y * 10000 + m * 100 + d))) None) ≡ To (i + 10) p
       rest m d x y a b c e =
           let f = D.from_month in
           let g = D.to_month in

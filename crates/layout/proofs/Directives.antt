@@ -28,7 +28,7 @@ use Rattle.text.proofs.DayLaws.{Day}
 use Rattle.text.specs.Every.{Every}
 use Rattle.text.proofs.EveryLaws.{every_left, every_right}
 use Rattle.text.proofs.Joins.{else_none}
-use Rattle.text.specs.Refusals.{word_gap_number}
+use Rattle.text.specs.Refusals.{missing_gap}
 use Rattle.layout.proofs.Days.{date_reads}
 use Rattle.layout.proofs.Readings.{items, items_append, Fine, Reads, skip_reads, and_reads, There}
 use Rattle.layout.proofs.Marks.{reached, word_reads, word_misses, line_reads}
@@ -58,8 +58,8 @@ unfolding keyword
 keyword_was w content anew s i j t rs T A h f =
     let a = and_inv (word (bytes w) s i) _ j rs h in
     let B = reached {s = s} (word_reach s i (at_in A) (bytes w)) a.3 in
-    let b = and_inv (hard_gap word_gap_number s a.0) _ j a.2 a.4 in
-    let G = hard_gap_was word_gap_number B b.3 in
+    let b = and_inv (hard_gap missing_gap s a.0) _ j a.2 a.4 in
+    let G = hard_gap_was missing_gap B b.3 in
     let c = and_inv (content s b.0) _ j b.2 b.4 in
     let d = and_inv (line_end s c.0) _ j c.2 c.4 in
     let p : rs ≡ c.1 ++ c.2 = a.5 ∙ ap (λ z. z ++ a.2) (word_empty (bytes w) s i a.0 a.1 a.3) ∙ b.5 ∙ ap (λ z. z ++ b.2) G.0 ∙ c.5 in
@@ -90,7 +90,7 @@ keyword_is : {s : List ℕ} {i : ℕ} (w : String) (content : List ℕ → ℕ �
 unfolding keyword
 keyword_is {s} {i} w content {ms} {ns} A M post stop B =
     skip_reads (word_reads (bytes w) _ B) (λ e E.
-    skip_reads (hard_gap_is word_gap_number (A.starts (10 ∷ metas_text M post)) E) (λ g G.
+    skip_reads (hard_gap_is missing_gap (A.starts (10 ∷ metas_text M post)) E) (λ g G.
     and_reads ms ns (A.reads s g (metas_text M post) G) (λ m D.
     skip_reads (line_reads D) (λ l L. metadata_is M post stop L))))
 
@@ -131,5 +131,5 @@ pub dated_form : (s : List ℕ) (p : ℕ) (D : Day p) (t : List ℕ) {k : ℕ} {
     → Made s (form_of s) k p ms post
 unfolding form_of directive date_text
 dated_form s p D t b A f =
-    let G = hard_gap_is word_gap_number b (at_next (date_text p) (32 ∷ t) A) in
+    let G = hard_gap_is missing_gap b (at_next (date_text p) (32 ∷ t) A) in
     made_first _ (made_then _ (date_reads s 0 p D (32 ∷ t) A) (made_then _ G.eq (f G.to G.rest)))

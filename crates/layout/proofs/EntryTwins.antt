@@ -12,7 +12,7 @@ use Rattle.text.proofs.InLine.{has_lf}
 use Rattle.text.specs.Every.{Every}
 use Rattle.text.proofs.Alike.{alike_map, and_alike, both_to, else_alike, must_alike}
 use Rattle.text.proofs.SharedLines.{date_alike, empty_alike, gap_alike, hard_gap_alike, line_alike, tag_alike, word_alike}
-use Rattle.text.specs.Refusals.{required_number, word_gap_number}
+use Rattle.text.specs.Refusals.{missing, missing_gap}
 use Rattle.amount.specs.declared.detail.Detail.{Detail}
 use Rattle.amount.specs.Details.{Rows}
 use Rattle.amount.specs.Amounts.{hard_currency, price_of}
@@ -39,7 +39,7 @@ rest_misses : (s : List ℕ) (i : ℕ) → transaction s i ≡ Miss → opening 
 unfolding transaction marks metadata body
 rest_misses s i e =
     first_misses (opening s i) _ (λ a m. no_maybe a _ (first_misses (maybe a (texts s a)) _
-    (λ b m. no_miss (mark s) _ b (first_misses (many (mark s) (suc (length s)) b) _ (λ c m. no_must required_number c _ (first_misses (must required_number c (line_end s c)) _ (λ d m.
+    (λ b m. no_miss (mark s) _ b (first_misses (many (mark s) (suc (length s)) b) _ (λ c m. no_must missing c _ (first_misses (must missing c (line_end s c)) _ (λ d m.
     no_miss (meta_step s) _ d (first_misses (many (meta_step s) (suc (length s)) d) _ (λ k m. no_miss (body_step s) _ k m) m)) m)) m)) m)) e
 
 -- words of a list, in two texts
@@ -53,7 +53,7 @@ module _ {s z : List ℕ} where
       → ((i j : ℕ) → Spot s z i j → Twin s z (content s i) (content z j)) → Spot s z i j → Follow (keyword w content s i) (keyword w content z j)
   unfolding keyword metadata
   keyword_follow w f content C S =
-      and_follow _ _ (word_alike quiet (bytes w) f S) (λ a b P. and_follow _ _ (hard_gap_alike quiet word_gap_number P)
+      and_follow _ _ (word_alike quiet (bytes w) f S) (λ a b P. and_follow _ _ (hard_gap_alike quiet missing_gap P)
       (λ c d Q. and_follow _ _ (C c d Q) (λ e g R. and_follow _ _ (line_alike quiet R) (λ k l U m. absurd (no_miss (meta_step s) _ k m)))))
 
   opening_follow : {i j : ℕ} → Spot s z i j → Follow (opening s i) (opening z j)
@@ -94,7 +94,7 @@ module _ {s z : List ℕ} where
 
   pub directive_follow : Spot s z 0 0 → Follow (directive s) (directive z)
   unfolding directive
-  directive_follow S = then_follow _ _ (date_alike quiet S) (λ a b x y P. then_follow _ _ (hard_gap_alike quiet {A = Detail} word_gap_number P) (λ c d k l Q. dateless_follow x y Q))
+  directive_follow S = then_follow _ _ (date_alike quiet S) (λ a b x y P. then_follow _ _ (hard_gap_alike quiet {A = Detail} missing_gap P) (λ c d k l Q. dateless_follow x y Q))
 
   option_follow : {i j : ℕ} → Spot s z i j → Follow (option s i) (option z j)
   unfolding option has_lf bytes
@@ -105,7 +105,7 @@ module _ {s z : List ℕ} where
   include_follow : {i j : ℕ} → Spot s z i j → Follow (include s i) (include z j)
   unfolding include has_lf bytes
   include_follow S =
-      and_follow _ _ (word_alike quiet (bytes "include") refl S) (λ a b P. and_follow _ _ (hard_gap_alike quiet word_gap_number P) (λ c d Q. and_follow _ _ (string_must Q) (λ e f R. alike_miss (must_alike required_number e f (λ q. absurd q) (line_alike quiet R)))))
+      and_follow _ _ (word_alike quiet (bytes "include") refl S) (λ a b P. and_follow _ _ (hard_gap_alike quiet missing_gap P) (λ c d Q. and_follow _ _ (string_must Q) (λ e f R. alike_miss (must_alike missing e f (λ q. absurd q) (line_alike quiet R)))))
 
   tagged_follow : {i j : ℕ} (w : String) → has_lf (bytes w) ≡ false → Spot s z i j → Follow (tagged w s i) (tagged w z j)
   unfolding tagged

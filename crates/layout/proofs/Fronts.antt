@@ -1,4 +1,5 @@
 -- Where the output goes on with an entry's own word, or ends, no line of the entry before goes on.
+use Rattle.std.specs.Prelude.{None}
 use Prim.Native.Nat.{ℕ, ◌<◌}
 use native.Mathlib.Omega.{arith}
 use mathlib.Core.Bool.{not, false, true, Bool, cond, ◌||◌, or-true, and-false}
@@ -11,7 +12,6 @@ use Rattle.text.specs.Bytes.{is_blank, is_digit, is_small, is_capital, in_tag}
 use Rattle.text.specs.Lines.{comment_end, eol_at, line_end_at, empty_at}
 use Rattle.text.specs.Answer.{Miss, ◌and◌, ◌else◌}
 use Rattle.text.specs.Leaves.{token, empty_line}
-use Rattle.text.specs.declared.Read.{Read}
 use Rattle.text.proofs.TestLaws.{differ, and_left}
 use Rattle.text.proofs.Ats.{At, at_byte}
 use Rattle.amount.specs.declared.detail.Detail.{Detail}
@@ -50,7 +50,7 @@ sharp_small b e = record {
   return = ne_eqb b 13 (differ is_small b 13 e refl);
 }
 
-line_off : (s : List ℕ) (i : ℕ) (t : List ℕ) → At s i t → Sharp (get_or t 0 0) → i < length s → line_end_at s i ≡ Read.Miss
+line_off : (s : List ℕ) (i : ℕ) (t : List ℕ) → At s i t → Sharp (get_or t 0 0) → i < length s → line_end_at s i ≡ None
 unfolding line_end_at comment_end eol_at
 line_off s i t A S h = rw (stops_at s is_blank i t A S.blank, at_byte A, S.comment) (rw (at_byte A, S.feed, S.return, lt-leb (length s) i h))
 
@@ -59,10 +59,10 @@ module _ (s : List ℕ) (i : ℕ) (t : List ℕ) (A : At s i t) (S : Sharp (get_
   unfolding empty_line empty_at token
   empty_misses = go (ltb i (length s)) refl
     where
-      no_end : i < length s → line_end_at s i ≡ Read.Miss
+      no_end : i < length s → line_end_at s i ≡ None
       no_end h = line_off s i t A S h
 
-      go : (b : Bool) → ltb i (length s) ≡ b → token {A = Detail} (cond b (line_end_at s i) Read.Miss) ≡ Miss
+      go : (b : Bool) → ltb i (length s) ≡ b → token {A = Detail} (cond b (line_end_at s i) None) ≡ Miss
       go true e = rw (no_end (ltb-true i (length s) e))
       go false e = refl
 

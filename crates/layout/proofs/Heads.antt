@@ -19,7 +19,7 @@ use Rattle.text.proofs.Steps.{such_within, drop_step}
 use Rattle.text.proofs.TokenEnds.{line_reach}
 use Rattle.text.specs.Every.{Every}
 use Rattle.text.proofs.EveryLaws.{every_left, every_right}
-use Rattle.text.specs.Refusals.{required_number}
+use Rattle.text.specs.Refusals.{missing}
 use Rattle.amount.specs.Details.{Rows, span}
 use Rattle.amount.specs.declared.detail.Detail.{Detail}
 use Rattle.row.specs.Details.{spanned}
@@ -214,7 +214,7 @@ module _ (s : List ℕ) (g j : ℕ) (t : List ℕ) (rs : List Detail) (T : Tidy 
       let o = and_inv (opening s g) _ j rs h in
       let x = and_inv (maybe o.0 (texts s o.0)) _ j o.2 o.4 in
       let m = and_inv (marks s x.0) _ j x.2 x.4 in
-      let l = and_inv (must required_number m.0 (line_end s m.0)) _ j m.2 m.4 in
+      let l = and_inv (must missing m.0 (line_end s m.0)) _ j m.2 m.4 in
       let n = and_inv (metadata s l.0) _ j l.2 l.4 in
       let O = reached {s = s} (opening_reach s g (omega (arith, A.fits))) o.3 in
       let X = maybe_texts_was s o.0 x.0 _ x.1 T O x.3 in
@@ -222,7 +222,7 @@ module _ (s : List ℕ) (g j : ℕ) (t : List ℕ) (rs : List Detail) (T : Tidy 
       let f2 = every_right Fine x.1 x.2 (subst (Every Fine) x.5 f1) in
       let f3 = subst (Every Fine) m.5 f2 in
       let M = marks_was s x.0 m.0 _ m.1 X.place m.3 (every_left Fine m.1 m.2 f3) in
-      let le = must_inv required_number m.0 (line_end s m.0) l.0 l.1 l.3 in
+      let le = must_inv missing m.0 (line_end s m.0) l.0 l.1 l.3 in
       let L = reached {s = s} (line_reach s m.0 (omega (arith, M.place.fits))) le in
       let q = l.5 ∙ ap (λ z. z ++ l.2) (line_empty s m.0 l.0 l.1 le) in
       let f4 = subst (Every Fine) n.5 (subst (Every Fine) q (every_right Fine m.1 m.2 f3)) in

@@ -1,4 +1,5 @@
 -- Costs: what was read is written so that it reads again.
+use Rattle.decimal.specs.Faults.{Value}
 use Prim.Native.Nat.{ℕ, suc, ◌+◌, ◌-◌, ◌*◌, ◌^◌, ◌/◌}
 use native.Mathlib.Omega.{arith}
 use mathlib.Core.Path.{◌≡◌, refl, sym, ◌∙◌, ap, subst}
@@ -10,7 +11,6 @@ use lib.Dec.{eqb}
 use lib.ListN.{length, get_or, drop}
 use Rattle.decimal.specs.Exact.{twos_of, exact}
 use Rattle.decimal.specs.declared.Form.TheVariants.{Rounding}
-use Rattle.decimal.specs.declared.Value.{Value}
 use Rattle.text.specs.Bytes.{is_blank, bytes, is_digit, is_space}
 use Rattle.text.specs.Run.{blanks}
 use Rattle.text.specs.Answer.{Ans, To, Miss, ◌then◌, ◌and◌, ◌else◌}

@@ -1,4 +1,6 @@
 -- Metadata: what was read is written so that it reads again.
+use Rattle.decimal.specs.Faults.{Value}
+use Rattle.std.specs.Prelude.{Ok, None, Some}
 use Prim.Native.Nat.{ℕ, suc, ◌+◌, ◌-◌, ◌≤◌, ◌<◌}
 use native.Mathlib.Omega.{arith}
 use mathlib.Core.Path.{◌≡◌, refl, sym, ◌∙◌, ap, subst, ap₂}
@@ -10,8 +12,6 @@ use lib.Dec.{eqb, ltb}
 use lib.ListN.{length, get_or, drop, length-append}
 use Rattle.decimal.specs.Exact.{whole_of, twos_of, decimal_of}
 use Rattle.decimal.specs.declared.Decimal.{Decimal}
-use Rattle.decimal.specs.declared.Value.{Value}
-use Rattle.decimal.specs.declared.Value.TheVariants.{Known}
 use Rattle.text.specs.Bytes.{is_blank, is_small, is_digit, in_tag, is_capital, between}
 use Rattle.text.specs.Answer.{To, Miss, ◌then◌, ◌and◌, ◌else◌}
 use Rattle.text.specs.Leaves.{gap, byte, currency, string, line_end, empty_line}
@@ -57,7 +57,7 @@ string_item : (s : List ℕ) (k c a e : ℕ) → item_d s (named 35 k c a e) ≡
 unfolding texted naming spanned millionths twos_of
 string_item s k c a e = refl
 
-number_item : (s : List ℕ) (k c a e : ℕ) (x : Decimal) → item_d s (valued 36 k c a e (Known x)) ≡ record { kind = 36; text = between s k c; other = []; number = 0; bits = twos_of (whole_of x) }
+number_item : (s : List ℕ) (k c a e : ℕ) (x : Decimal) → item_d s (valued 36 k c a e (Ok x)) ≡ record { kind = 36; text = between s k c; other = []; number = 0; bits = twos_of (whole_of x) }
 unfolding texted naming spanned millionths
 number_item s k c a e x = refl
 
@@ -138,7 +138,7 @@ module _ (s : List ℕ) (k c : ℕ) (K : Key (between s k c)) where
 
 -- ---- a line
 
-token_end : (s : List ℕ) (i j : ℕ) (rs : List Detail) → key s i ≡ To j rs → (key_at s i ≡ Rattle.text.specs.declared.Read.TheVariants.To j) × (rs ≡ [])
+token_end : (s : List ℕ) (i j : ℕ) (rs : List Detail) → key s i ≡ To j rs → (key_at s i ≡ Some j) × (rs ≡ [])
 unfolding key
 token_end s i j rs h = token_inv (key_at s i) j rs h
 

@@ -1,4 +1,5 @@
 -- What a miss says of the parts of a reader that is put together.
+use Rattle.text.specs.declared.stop.Cause.{Cause}
 use Prim.Native.Nat.{ℕ, zero, suc, ◌+◌, ◌<◌}
 use native.Mathlib.Omega.{arith}
 use mathlib.Core.Path.{◌∙◌, sym, ◌≡◌, refl}
@@ -18,7 +19,7 @@ use Rattle.entry.specs.Forms.{as_entry}
 pub to_miss : {A B : Type 0} {j : ℕ} {x : A} → To j x ≡ Miss → B
 to_miss e = absurd (let z : ◌≡◌ {A = ℕ} 0 1 = cc in omega arith)
 
-pub hard_miss : {A B : Type 0} {k p : ℕ} → ◌≡◌ {A = Ans A} (Hard k p) Miss → B
+pub hard_miss : {A B : Type 0} {k : Cause} {p : ℕ} → ◌≡◌ {A = Ans A} (Hard k p) Miss → B
 hard_miss e = absurd (let z : ◌≡◌ {A = ℕ} 0 1 = cc in omega arith)
 
 pub no_maybe : (i : ℕ) (a : Rows) → maybe i a ≡ Miss → ⊥
@@ -27,7 +28,7 @@ no_maybe i (To k y) e = to_miss e
 no_maybe i Miss e = to_miss e
 no_maybe i (Hard k p) e = hard_miss e
 
-pub no_must : (n i : ℕ) (a : Rows) → must n i a ≡ Miss → ⊥
+pub no_must : (n : Cause) (i : ℕ) (a : Rows) → must n i a ≡ Miss → ⊥
 unfolding must
 no_must n i (To k y) e = to_miss e
 no_must n i Miss e = hard_miss e

@@ -1,4 +1,5 @@
 -- A size in digits writes that many millionths.
+use Rattle.std.specs.Prelude.{Ok}
 use Prim.Native.Nat.{ℕ, zero, suc, ◌+◌, ◌-◌, ◌*◌, ◌/◌, ◌%◌, ◌^◌, ◌≤◌, ◌<◌}
 use native.Mathlib.Omega.{arith}
 use native.Mathlib.Nat.{mul_assoc, mul_comm, pow-suc, mul-div_cancel, mul-mod_left, mul-le-mul_right}
@@ -9,7 +10,6 @@ use borrow.Author.Tests.{le-leb, ltb-true, le-ltb, eqb-true, ne_eqb}
 use lib.Dec.{eqb, ltb}
 use lib.ListN.{length}
 use Rattle.decimal.specs.Exact.{limit, exact, decimal_of}
-use Rattle.decimal.specs.declared.Value.TheVariants.{Known}
 use Rattle.text.specs.Bytes.{is_digit}
 use Rattle.text.proofs.TestLaws.{differ, and_left, and_right}
 use Rattle.amount.specs.Literal.{in_literal, count, is_point, number, places, is_number}
@@ -280,9 +280,9 @@ size_is_number n =
 
 -- ---- the exact value
 
-exact_whole : (m : Bool) (n d : ℕ) → n ≤ limit → 0 < d → exact m (n * d) d ≡ Known (decimal_of m n)
+exact_whole : (m : Bool) (n d : ℕ) → n ≤ limit → 0 < d → exact m (n * d) d ≡ Ok (decimal_of m n)
 unfolding exact
 exact_whole m n d h p = rw (le-ltb (limit * d) (n * d) (mul-le-mul_right d h), mul-mod_left n d, mul-div_cancel n p)
 
-pub size_exact : (m : Bool) (n : ℕ) → n ≤ limit → exact m (number 0 (size_text n) * 1000000) (10 ^ places (size_text n)) ≡ Known (decimal_of m n)
+pub size_exact : (m : Bool) (n : ℕ) → n ≤ limit → exact m (number 0 (size_text n) * 1000000) (10 ^ places (size_text n)) ≡ Ok (decimal_of m n)
 size_exact m n h = rw (size_number n h) (exact_whole m n (10 ^ places (size_text n)) h (ten_pos (places (size_text n))))

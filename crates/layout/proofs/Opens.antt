@@ -1,4 +1,5 @@
 -- An open: what was read is written so that it reads again.
+use Rattle.std.specs.Prelude.{None, Some}
 use Prim.Native.Nat.{ℕ, suc, ◌<◌}
 use native.Mathlib.Omega.{arith}
 use mathlib.Core.Path.{◌≡◌, refl, sym, ◌∙◌, ap, subst}
@@ -54,11 +55,11 @@ unfolding one_currency
 one_currency_is {s} {i} w post C F A = skip_reads (currency_is w post C F A) (λ j B. text_row_lem 31 i j w post currency_kind_lem A B)
 
 missed : (s : List ℕ) (i : ℕ) → is_capital (get_or s i 0) ≡ false
-    → (token {A = Detail} (Rattle.text.specs.declared.Read.TheVariants.To i) and λ g. one_currency s g and λ e. many (further s) (suc (length s)) e) ≡ Miss
+    → (token {A = Detail} (Some i) and λ g. one_currency s g and λ e. many (further s) (suc (length s)) e) ≡ Miss
 unfolding one_currency currency currency_at token ◌and◌ more
 missed s i e = rw e
 
-no_token : (g : ℕ → Rows) → (token {A = Detail} Rattle.text.specs.declared.Read.TheVariants.Miss and g) ≡ Miss
+no_token : (g : ℕ → Rows) → (token {A = Detail} None and g) ≡ Miss
 unfolding token ◌and◌
 no_token g = refl
 
@@ -155,7 +156,7 @@ unfolding gap gap_at currencies
 no_purse s i t O A = go (ltb i (blanks s i))
   where
     go : (b : Bool)
-        → (token {A = Detail} (cond b (Rattle.text.specs.declared.Read.TheVariants.To (blanks s i)) Rattle.text.specs.declared.Read.TheVariants.Miss) and λ g.
+        → (token {A = Detail} (cond b (Some (blanks s i)) None) and λ g.
         one_currency s g and λ e. many (further s) (suc (length s)) e) ≡ Miss
     go true = missed s (blanks s i) (rw (past_blanks s t i A) O.capital)
     go false = no_token _

@@ -1,4 +1,7 @@
 -- Rows of one text or value: what was read there, and that it reads again where it is written.
+use Rattle.text.specs.declared.stop.Cause.{Cause}
+use Rattle.decimal.specs.Faults.{Value}
+use Rattle.std.specs.Prelude.{Ok}
 use Prim.Native.Nat.{ℕ, ◌+◌, ◌-◌}
 use native.Mathlib.Omega.{arith}
 use mathlib.Core.Path.{◌≡◌, refl, sym, ◌∙◌, ap, subst}
@@ -7,8 +10,6 @@ use mathlib.Core.List.{List, [], ◌∷◌, ◌++◌, append_assoc}
 use lib.ListN.{length, get_or, drop, length-append}
 use Rattle.decimal.specs.Exact.{whole_of, decimal_of, twos_of}
 use Rattle.decimal.specs.declared.Decimal.{Decimal}
-use Rattle.decimal.specs.declared.Value.{Value}
-use Rattle.decimal.specs.declared.Value.TheVariants.{Known}
 use Rattle.text.specs.Bytes.{is_blank, between}
 use Rattle.text.specs.Lines.{gap_at}
 use Rattle.text.specs.Strings.{string_at}
@@ -23,7 +24,7 @@ use Rattle.text.proofs.Inversions.{and_inv, must_inv, then_inv, token_inv, to_in
 use Rattle.text.proofs.AccountLaws.{account_answers}
 use Rattle.text.specs.Every.{Every}
 use Rattle.amount.specs.Details.{span, valued, Rows, quoted}
-use Rattle.text.specs.Refusals.{required_number, second_part_number}
+use Rattle.text.specs.Refusals.{missing, missing_part}
 use Rattle.amount.specs.Expression.{expression}
 use Rattle.amount.specs.Amounts.{amount, hard_currency, hard_amount}
 use Rattle.amount.specs.declared.detail.Detail.{Detail}
@@ -47,7 +48,7 @@ module _ {s : List ℕ} {i : ℕ} where
   -- any account and what it leaves
   pub account_was : {t : List ℕ} {j : ℕ} {rs : List Detail} → At s i t → account s i ≡ To j rs → (rest : List ℕ) × At s j rest × Account (between s i j) × (rs ≡ [])
   account_was {t} {j} {rs} A h =
-      let n = account_inv second_part_number i (account_at s i) j rs (sym (account_answers s i) ∙ h) in
+      let n = account_inv (account_at s i) j rs (sym (account_answers s i) ∙ h) in
       let T = account_taken A n.0 in
       let k = at_split T.word T.rest j (subst (At s i) T.cut A) T.end in
       (T.rest, k.1, subst Account (sym k.0) T.good, n.1)
@@ -82,10 +83,10 @@ text_row_lem {s} k i j w post K A B = row_reads (span_item s k i j K ∙ ap (tex
 -- a token that must stand, and its row
 module _ {s : List ℕ} (i k : ℕ) (K : TextKind k) (x : Rows) where
   must_was : (G : List ℕ → Type 0) → ((j : ℕ) (rs : List Detail) → x ≡ To j rs → (rest : List ℕ) × At s j rest × G (between s i j) × (rs ≡ [])) → (j : ℕ) (rs : List Detail)
-      → (must required_number i x and λ e. To e (span k i e ∷ [])) ≡ To j rs → There s j rs (IsText G k)
+      → (must missing i x and λ e. To e (span k i e ∷ [])) ≡ To j rs → There s j rs (IsText G k)
   must_was G was j rs h =
-      let a = and_inv (must required_number i x) _ j rs h in
-      let b = was a.0 a.1 (must_inv required_number i x a.0 a.1 a.3) in
+      let a = and_inv (must missing i x) _ j rs h in
+      let b = was a.0 a.1 (must_inv missing i x a.0 a.1 a.3) in
       let c = to_inv a.0 j _ a.2 a.4 in
       record {
         rest = b.0;
@@ -93,8 +94,8 @@ module _ {s : List ℕ} (i k : ℕ) (K : TextKind k) (x : Rows) where
         is = one_span s G k i j rs a.2 K (a.5 ∙ ap (λ z. z ++ a.2) b.3) (c.1 ∙ ap (λ z. span k i z ∷ []) c.0) (subst (λ z. G (between s i z)) c.0 b.2);
       }
 
-  must_is : (w post : List ℕ) → Reads s x [] post → At s i (w ++ post) → Reads s (must required_number i x and λ e. To e (span k i e ∷ [])) (text_item k w ∷ []) post
-  must_is w post R A = skip_reads (must_reads required_number i R) (λ j B. text_row_lem k i j w post K A B)
+  must_is : (w post : List ℕ) → Reads s x [] post → At s i (w ++ post) → Reads s (must missing i x and λ e. To e (span k i e ∷ [])) (text_item k w ∷ []) post
+  must_is w post R A = skip_reads (must_reads missing i R) (λ j B. text_row_lem k i j w post K A B)
 
 module _ {s : List ℕ} {i : ℕ} where
   pub hard_account_was : {t : List ℕ} {j : ℕ} {rs : List Detail} → At s i t → hard_account s i ≡ To j rs → There s j rs (IsText Account 25)
@@ -186,11 +187,11 @@ module _ {s : List ℕ} {i : ℕ} where
   pub gap_was : {t : List ℕ} {j : ℕ} {rs : List Detail} → At s i t → gap s i ≡ To j rs → (rs ≡ []) × At s j (drop j s)
   gap_was {t} {j} {rs} A h = (gap_empty s i j rs h, reached (gap_reach s i (at_in A)) h)
 
-  pub hard_gap_was : (n : ℕ) {t : List ℕ} {j : ℕ} {rs : List Detail} → At s i t → hard_gap n s i ≡ To j rs → (rs ≡ []) × At s j (drop j s)
+  pub hard_gap_was : (n : Cause) {t : List ℕ} {j : ℕ} {rs : List Detail} → At s i t → hard_gap n s i ≡ To j rs → (rs ≡ []) × At s j (drop j s)
   unfolding hard_gap
   hard_gap_was n {t} {j} {rs} A h = gap_was A (must_inv n i (gap s i) j rs h)
 
-  pub hard_gap_is : (n : ℕ) {t : List ℕ} → is_blank (get_or t 0 0) ≡ false → At s i (32 ∷ t) → Reads s (hard_gap n s i) [] t
+  pub hard_gap_is : (n : Cause) {t : List ℕ} → is_blank (get_or t 0 0) ≡ false → At s i (32 ∷ t) → Reads s (hard_gap n s i) [] t
   unfolding hard_gap
   hard_gap_is n e A = must_reads n i (gap_reads e A)
 
@@ -228,12 +229,12 @@ pub total_kind : SumKind 30
 unfolding texted spanned naming
 total_kind = (refl, refl, refl)
 
-valued_item : (s : List ℕ) (k a e p q : ℕ) (x : Decimal) → SumKind k → item_d s (valued k a e p q (Known x)) ≡ sum_item k (twos_of (whole_of x)) (between s p q)
+valued_item : (s : List ℕ) (k a e p q : ℕ) (x : Decimal) → SumKind k → item_d s (valued k a e p q (Ok x)) ≡ sum_item k (twos_of (whole_of x)) (between s p q)
 unfolding millionths
 valued_item s k a e p q x K = rw (K.0, K.1, K.2)
 
 -- the value of an expression that was read
-pub value_was : (s : List ℕ) (i e : ℕ) (v : Value) (x : Decimal) → expression s i ≡ To e v → v ≡ Known x → Form (twos_of (whole_of x))
+pub value_was : (s : List ℕ) (i e : ℕ) (v : Value) (x : Decimal) → expression s i ≡ To e v → v ≡ Ok x → Form (twos_of (whole_of x))
 value_was s i e v x h f = let S = subst Smalls (h ∙ ap (To e) f) (expression_small s i) in value_form x.minus x.size S.holds.holds
 
 module _ {s : List ℕ} {i : ℕ} (k : ℕ) (K : SumKind k) where
@@ -283,10 +284,10 @@ module _ (s : List ℕ) (i k : ℕ) where
   hard_soft : {j : ℕ} {rs : List Detail} → hard_amount k s i ≡ To j rs → amount k s i ≡ To j rs
   unfolding hard_amount amount hard_gap ◌then◌ ◌and◌ more
   hard_soft {j} {rs} h =
-      let a = then_inv (must required_number i (expression s i)) _ j rs h in
-      let b = and_inv (must required_number a.0 (gap s a.0)) _ j rs a.3 in
-      let c = and_inv (must required_number b.0 (currency s b.0)) _ j b.2 b.4 in
-      rw (must_inv required_number i (expression s i) a.0 a.1 a.2, must_inv required_number a.0 (gap s a.0) b.0 b.1 b.3, must_inv required_number b.0 (currency s b.0) c.0 c.1 c.3)
+      let a = then_inv (must missing i (expression s i)) _ j rs h in
+      let b = and_inv (must missing a.0 (gap s a.0)) _ j rs a.3 in
+      let c = and_inv (must missing b.0 (currency s b.0)) _ j b.2 b.4 in
+      rw (must_inv missing i (expression s i) a.0 a.1 a.2, must_inv missing a.0 (gap s a.0) b.0 b.1 b.3, must_inv missing b.0 (currency s b.0) c.0 c.1 c.3)
       (ap (more b.1) (ap (more c.1) c.4) ∙ ap (To j) (ap (λ z. b.1 ++ z) (sym c.5) ∙ sym b.5))
 
   soft_hard : {j : ℕ} {rs : List Detail} → amount k s i ≡ To j rs → hard_amount k s i ≡ To j rs
@@ -305,7 +306,7 @@ module _ (s : List ℕ) (i k : ℕ) where
       let R = amount_is k K v c post F C P A in
       record { to = R.to; rows = R.rows; eq = soft_hard R.eq; rest = R.rest; same = R.same; fine = R.fine }
 
-pub hard_gap_empty : (n : ℕ) (s : List ℕ) (i j : ℕ) (rs : List Detail) → hard_gap n s i ≡ To j rs → rs ≡ []
+pub hard_gap_empty : (n : Cause) (s : List ℕ) (i j : ℕ) (rs : List Detail) → hard_gap n s i ≡ To j rs → rs ≡ []
 unfolding hard_gap
 hard_gap_empty n s i j rs h = gap_empty s i j rs (must_inv n i (gap s i) j rs h)
 

@@ -1,4 +1,5 @@
 -- Postings: what was read is written so that it reads again.
+use Rattle.std.specs.Prelude.{None, Option, Some}
 use Prim.Native.Nat.{ℕ, suc, ◌+◌, ◌≤◌, ◌<◌}
 use native.Mathlib.Omega.{arith}
 use native.Mathlib.Decide.{dec_lt}
@@ -17,7 +18,6 @@ use Rattle.text.specs.Leaves.{gap, token, line_end, empty_line}
 use Rattle.text.specs.Accounts.{account}
 use Rattle.text.specs.Lines.{gap_at, comment_end, eol_at, line_end_at, empty_at}
 use Rattle.text.specs.Permitted.{permitted}
-use Rattle.text.specs.declared.Read.{Read}
 use Rattle.text.proofs.Ats.{At, at_next, at_one, at_byte, at_drop}
 use Rattle.text.proofs.Inversions.{and_inv, then_inv, token_inv, else_inv, to_inv, not_miss}
 use Rattle.text.proofs.TestLaws.{differ, absurd_bool}
@@ -65,26 +65,26 @@ return_feed s e T l c =
     let p = tidy_head (get_or s e 0) (drop (e + 1) s) (subst Tidy D (tidy_at T A)) in
     rw (c, head_drop s (e + 1)) at p
 
-token_miss : (r : Read) → token {A = Detail} r ≡ Miss → r ≡ Read.Miss
+token_miss : (r : Option ℕ) → token {A = Detail} r ≡ Miss → r ≡ None
 unfolding token
-token_miss (Read.To j) e = absurd (let z : ◌≡◌ {A = ℕ} 0 1 = cc in omega arith)
-token_miss Read.Miss e = refl
+token_miss (Some j) e = absurd (let z : ◌≡◌ {A = ℕ} 0 1 = cc in omega arith)
+token_miss None e = refl
 
-eol_ends : (s : List ℕ) (e : ℕ) → Tidy s → (e < length s → in_comment (get_or s e 0) ≡ false) → eol_at s e ≡ Read.Miss → ⊥
+eol_ends : (s : List ℕ) (e : ℕ) → Tidy s → (e < length s → in_comment (get_or s e 0) ≡ false) → eol_at s e ≡ None → ⊥
 unfolding eol_at in_comment
 eol_ends s e T h m =
     elim (dec_lt e (length s)) [ yes l ↦ go (eqb (get_or s e 0) 10) refl (eqb (get_or s e 0) 13) refl (h l) l m | no l ↦ past (rw (get_d_past s e (omega arith), le-leb (length s) e (omega arith)) at m) ]
   where
-    past : Read.To e ≡ Read.Miss → ⊥
+    past : Some e ≡ None → ⊥
     past m = let z : ◌≡◌ {A = ℕ} 0 1 = cc in omega arith
 
     go : (a : Bool) → eqb (get_or s e 0) 10 ≡ a → (b : Bool) → eqb (get_or s e 0) 13 ≡ b → (not a && not b) ≡ false → e < length s
-        → cond a (Read.To (e + 1)) (cond (b && eqb (get_or s (e + 1) 0) 10) (Read.To (e + 2)) (cond (leb (length s) e) (Read.To e) Read.Miss)) ≡ Read.Miss → ⊥
+        → cond a (Some (e + 1)) (cond (b && eqb (get_or s (e + 1) 0) 10) (Some (e + 2)) (cond (leb (length s) e) (Some e) None)) ≡ None → ⊥
     go true p b q x l m = let z : ◌≡◌ {A = ℕ} 0 1 = cc in omega arith
     go false p false q x l m = absurd_bool (sym x)
     go false p true q x l m =
         let n = return_feed s e T l (eqb-true (get_or s e 0) 13 q) in
-        let y : Read.To (e + 2) ≡ Read.Miss = rw n at m in
+        let y : Some (e + 2) ≡ None = rw n at m in
         (let z : ◌≡◌ {A = ℕ} 0 1 = cc in omega arith)
 
 comment_ends : (s : List ℕ) (i : ℕ) → Tidy s → i < length s → get_or s (blanks s i) 0 ≡ 59 → empty_line {A = Detail} s i ≡ Miss → ⊥
@@ -107,7 +107,7 @@ gap_last : (s : List ℕ) (i j : ℕ) (x : List Detail) → gap s i ≡ To j x �
 unfolding gap gap_at
 gap_last s i j x h =
     let a = token_inv (gap_at s i) j x h in
-    let b = read_if (ltb i (blanks s i)) (Read.To (blanks s i)) j a.0 in
+    let b = read_if (ltb i (blanks s i)) (Some (blanks s i)) j a.0 in
     (cc, (run_first is_blank s i (blanks s i) refl (ltb-true i (blanks s i) b.0)).0)
 
 blank_feed : (b : ℕ) → is_blank b ≡ true → b ≡ 10 → ⊥

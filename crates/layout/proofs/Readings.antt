@@ -1,4 +1,6 @@
 -- Readings as items: what a reader gives at a place, what it leaves, and how readers join, both ways.
+use Rattle.text.specs.declared.stop.Cause.{Cause}
+use Rattle.std.specs.Prelude.{Option, Some, Ok}
 use Prim.Native.Nat.{ℕ, zero, suc, ◌<◌}
 use native.Mathlib.Omega.{arith}
 use mathlib.Core.Path.{◌≡◌, refl, ◌∙◌, ap, subst, sym}
@@ -8,10 +10,8 @@ use mathlib.Core.Logic.{◌⊎◌, inl, inr}
 use lib.ListN.{length}
 use Rattle.decimal.specs.Exact.{twos_of}
 use Rattle.decimal.specs.declared.Decimal.{Decimal}
-use Rattle.decimal.specs.declared.Value.TheVariants.{Known}
 use Rattle.text.specs.Answer.{Ans, To, Miss, ◌then◌, ◌and◌, ◌else◌, more, must, maybe, many}
 use Rattle.text.specs.Leaves.{token}
-use Rattle.text.specs.declared.Read.{Read}
 use Rattle.text.proofs.Ats.{At}
 use Rattle.text.proofs.Inversions.{maybe_inv}
 use Rattle.text.specs.Every.{Every}
@@ -36,7 +36,7 @@ items_append s (x ∷ xs) ys = ap (λ z. item_d s x ∷ z) (items_append s xs ys
 
 -- a value that is no refusal
 abbrev pub Fine : Detail → Type 0
-Fine d = (x : Decimal) × (d.value ≡ Known x)
+Fine d = (x : Decimal) × (d.value ≡ Ok x)
 
 -- an item that is a text
 abbrev pub text_item : ℕ → List ℕ → Item
@@ -56,14 +56,14 @@ module _ {s : List ℕ} where
   pub none_reads : {j : ℕ} {t : List ℕ} {a : Rows} → a ≡ To j [] → At s j t → Reads s a [] t
   none_reads {j} e A = record { to = j; rows = []; eq = e; rest = A; same = refl; fine = tt }
 
-  pub token_reads : {j : ℕ} {t : List ℕ} {r : Read} → r ≡ Read.To j → At s j t → Reads s (token r) [] t
+  pub token_reads : {j : ℕ} {t : List ℕ} {r : Option ℕ} → r ≡ Some j → At s j t → Reads s (token r) [] t
   unfolding token
   token_reads {j} e A = record { to = j; rows = []; eq = ap token e; rest = A; same = refl; fine = tt }
 
   pub row_reads : {j : ℕ} {t : List ℕ} {d : Detail} {m : Item} → item_d s d ≡ m → Fine d → At s j t → Reads s (To j (d ∷ [])) (m ∷ []) t
   row_reads {j} {t} {d} e f A = record { to = j; rows = d ∷ []; eq = refl; rest = A; same = ap (λ z. z ∷ []) e; fine = (f, tt) }
 
-  pub must_reads : (n i : ℕ) {a : Rows} {ms : List Item} {t : List ℕ} → Reads s a ms t → Reads s (must n i a) ms t
+  pub must_reads : (n : Cause) (i : ℕ) {a : Rows} {ms : List Item} {t : List ℕ} → Reads s a ms t → Reads s (must n i a) ms t
   unfolding must
   must_reads n i R = record { to = R.to; rows = R.rows; eq = rw R.eq; rest = R.rest; same = R.same; fine = R.fine }
 

@@ -1,4 +1,6 @@
 -- Directives, renewed: those with a keyword; and a directive is one of them or a transaction.
+use Rattle.text.specs.declared.stop.Cause.{Cause}
+use Rattle.std.specs.Prelude.{Some}
 use Prim.Native.Nat.{ℕ}
 use Prim.Native.String.{String}
 use native.Mathlib.Omega.{arith}
@@ -14,7 +16,6 @@ use Rattle.text.specs.Run.{blanks}
 use Rattle.text.specs.Leaves.{gap, hard_gap, date}
 use Rattle.text.specs.Lines.{gap_at}
 use Rattle.text.specs.Words.{starts_with}
-use Rattle.text.specs.declared.Read.{Read}
 use Rattle.text.proofs.Ats.{At, at_drop, at_in}
 use Rattle.text.proofs.Inversions.{must_inv, then_inv, token_inv, else_inv, not_miss}
 use Rattle.text.proofs.TokenEnds.{date_reach}
@@ -31,7 +32,7 @@ use Rattle.layout.proofs.Texts.{Tidy}
 use Rattle.layout.proofs.Values.{run_past}
 use Rattle.text.proofs.DayLaws.{Day, date_there, date_head}
 use Rattle.text.specs.Every.{Every}
-use Rattle.text.specs.Refusals.{word_gap_number}
+use Rattle.text.specs.Refusals.{missing_gap}
 use Rattle.layout.proofs.Tokens.{read_if}
 use Rattle.layout.proofs.Neats.{Neat, neat_join, neat_cons, neat_space, neat_none, free_feed}
 use Rattle.layout.proofs.Readings.{items, Fine}
@@ -155,11 +156,11 @@ unfolding is_blank
 blank_none = refl
 
 -- past a gap stands no blank
-gap_past : (n : ℕ) (s : List ℕ) (i j : ℕ) (rs : List Detail) → hard_gap n s i ≡ To j rs → is_blank (get_or (drop j s) 0 0) ≡ false
+gap_past : (n : Cause) (s : List ℕ) (i j : ℕ) (rs : List Detail) → hard_gap n s i ≡ To j rs → is_blank (get_or (drop j s) 0 0) ≡ false
 unfolding hard_gap gap gap_at
 gap_past n s i j rs h =
     let a = token_inv (gap_at s i) j rs (must_inv n i _ j rs h) in
-    let b = read_if (ltb i (blanks s i)) (Read.To (blanks s i)) j a.0 in
+    let b = read_if (ltb i (blanks s i)) (Some (blanks s i)) j a.0 in
     run_past is_blank blank_none s i j cc
 
 -- a directive: a transaction or a keyword
@@ -167,12 +168,12 @@ pub directive_renewed : (s : List ℕ) (n : ℕ) (f : Entry) → directive s ≡
 unfolding directive
 directive_renewed s n f h fine T =
     let a = then_inv (date s 0) _ n f h in
-    let b = then_inv (hard_gap {A = Detail} word_gap_number s a.0) _ n f a.3 in
+    let b = then_inv (hard_gap {A = Detail} missing_gap s a.0) _ n f a.3 in
     let d = date_there s 0 a.0 a.1 a.2 in
     let E = reached {s = s} (date_reach s 0 (omega arith)) a.2 in
-    let G = hard_gap_was word_gap_number E b.2 in
+    let G = hard_gap_was missing_gap E b.2 in
     let first = date_head s a.0 a.1 a.2 in
-    go a.1 b.0 d.0 first G.1 (gap_past word_gap_number s a.0 b.0 b.1 b.2) (else_inv (as_entry 6 a.1 (transaction s b.0)) _ n f (sym (dateless_tried a.1 s b.0) ∙ b.3))
+    go a.1 b.0 d.0 first G.1 (gap_past missing_gap s a.0 b.0 b.1 b.2) (else_inv (as_entry 6 a.1 (transaction s b.0)) _ n f (sym (dateless_tried a.1 s b.0) ∙ b.3))
   where
     go : (p g : ℕ) → Day p → is_digit (get_or s 0 0) ≡ true → At s g (drop g s) → is_blank (get_or (drop g s) 0 0) ≡ false
         → (as_entry 6 p (transaction s g) ≡ To n f) ⊎ ((as_entry 6 p (transaction s g) ≡ Miss) × (tried p s g keywords Miss ≡ To n f)) → Renewal s n f

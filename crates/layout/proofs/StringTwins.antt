@@ -10,7 +10,7 @@ use Rattle.text.specs.Strings.{string_at}
 use Rattle.text.specs.Leaves.{token, string}
 use Rattle.text.proofs.Alike.{both_miss, both_to, and_alike, else_alike, maybe_alike, must_alike}
 use Rattle.text.proofs.SharedLines.{byte_alike, byte_same, empty_alike, gap_alike, hard_gap_alike, gap_at_lem, line_alike, told}
-use Rattle.text.specs.Refusals.{required_number}
+use Rattle.text.specs.Refusals.{missing}
 use Rattle.amount.specs.declared.detail.Detail.{Detail}
 use Rattle.amount.specs.Details.{quoted}
 use Rattle.posting.specs.Metadata.{value, meta_line, meta_step}
@@ -53,11 +53,11 @@ module _ {s z : List ℕ} where
 
   pub string_must : {i j : ℕ} → Spot s z i j → Twin s z (hard_string s i) (hard_string z j)
   unfolding hard_string
-  string_must S = must_alike required_number _ _ (told quiet S) (quoted_twin _ _ S)
+  string_must S = must_alike missing _ _ (told quiet S) (quoted_twin _ _ S)
 
   pub event_of_twin : {i j : ℕ} → Spot s z i j → Twin s z (event_of s i) (event_of z j)
   unfolding event_of
-  event_of_twin S = and_alike _ _ (string_must S) (λ a b P. and_alike _ _ (hard_gap_alike quiet required_number P) (λ c d Q. string_must Q))
+  event_of_twin S = and_alike _ _ (string_must S) (λ a b P. and_alike _ _ (hard_gap_alike quiet missing P) (λ c d Q. string_must Q))
 
   pub open_of_twin : {i j : ℕ} → Spot s z i j → Twin s z (open_of s i) (open_of z j)
   unfolding open_of booking

@@ -1,4 +1,7 @@
 -- The texts of tokens: what was read once reads again before another text.
+use Rattle.text.specs.Refusals.{missing_part}
+use Rattle.text.specs.declared.stop.Stop.{Stop}
+use Rattle.std.specs.Prelude.{None, Option, Some, Err, Ok, Result}
 use Prim.Native.Nat.{ℕ, suc, ◌+◌, ◌-◌, ◌<◌}
 use native.Mathlib.Omega.{arith}
 use mathlib.Core.Path.{◌≡◌, refl, sym, ◌∙◌, ap, subst}
@@ -13,8 +16,6 @@ use Rattle.text.specs.Strings.{str_from, esc_from, string_at}
 use Rattle.text.specs.steps.Accounts.{part_follows, parts_from, account_at}
 use Rattle.text.specs.Currencies.{currency_at}
 use Rattle.text.specs.Tags.{marked_at}
-use Rattle.text.specs.declared.Read.{Read}
-use Rattle.text.specs.declared.account.AccountRead.{AccountRead}
 use Rattle.text.proofs.TestLaws.{absurd_bool, and_left, and_right}
 use Rattle.text.proofs.Ats.{At, at_next, at_one, at_byte, at_far}
 use Rattle.posting.specs.Metadata.{key_at}
@@ -69,11 +70,11 @@ pub record Taken (Good : List ℕ → Type 0) (s t : List ℕ) (i e : ℕ) : Typ
   pub good : Good word
 
 -- a reading that is tested for
-pub read_if : (c : Bool) (x : Read) (e : ℕ) → cond c x Read.Miss ≡ Read.To e → (c ≡ true) × (x ≡ Read.To e)
+pub read_if : (c : Bool) (x : Option ℕ) (e : ℕ) → cond c x None ≡ Some e → (c ≡ true) × (x ≡ Some e)
 read_if true x e h = (refl, h)
 read_if false x e h = absurd (let z : ◌≡◌ {A = ℕ} 0 1 = cc in omega arith)
 
-pub read_to : (j e : ℕ) → Read.To j ≡ Read.To e → e ≡ j
+pub read_to : (j e : ℕ) → Some j ≡ Some e → e ≡ j
 read_to j e h = cc
 
 -- a first byte and a run
@@ -112,7 +113,7 @@ last_byte : {s : List ℕ} {i : ℕ} {t : List ℕ} (A : At s i t) (w rest : Lis
 last_byte {s} {i} {t} A w rest n j c e h b =
     subst (λ x. starts_part x ≡ true) (ap (λ z. get_or s z 0) e ∙ at_far n A ∙ ap (λ z. get_or z n 0) c ∙ get_or-append w rest 0 n h) b
 
-pub currency_taken : {s : List ℕ} {i e : ℕ} {t : List ℕ} (A : At s i t) → currency_at s i ≡ Read.To e → Taken Currency s t i e
+pub currency_taken : {s : List ℕ} {i e : ℕ} {t : List ℕ} (A : At s i t) → currency_at s i ≡ Some e → Taken Currency s t i e
 unfolding currency_at
 currency_taken {s} {i} {e} {t} A h =
     let a = read_if (is_capital (get_or s i 0)) _ e h in
@@ -135,7 +136,7 @@ currency_taken {s} {i} {e} {t} A h =
       };
     }
 
-pub currency_again : {s : List ℕ} {i : ℕ} (w post : List ℕ) → Currency w → in_currency (get_or post 0 0) ≡ false → At s i (w ++ post) → currency_at s i ≡ Read.To (i + length w)
+pub currency_again : {s : List ℕ} {i : ℕ} (w post : List ℕ) → Currency w → in_currency (get_or post 0 0) ≡ false → At s i (w ++ post) → currency_at s i ≡ Some (i + length w)
 unfolding currency_at
 currency_again {s} {i} w post C c A =
     let B = subst (λ z. At s i (z ++ post)) C.is A in
@@ -147,7 +148,7 @@ currency_again {s} {i} w post C c A =
 
 -- ---- tags, links, keys: a mark and a run
 
-pub marked_taken : {s : List ℕ} {i e : ℕ} {t : List ℕ} (m : ℕ) (p : ℕ → Bool) → 0 < m → At s i t → marked_at m p s i ≡ Read.To e
+pub marked_taken : {s : List ℕ} {i e : ℕ} {t : List ℕ} (m : ℕ) (p : ℕ → Bool) → 0 < m → At s i t → marked_at m p s i ≡ Some e
     → (w : List ℕ) × (rest : List ℕ) × (t ≡ m ∷ (w ++ rest)) × (e ≡ i + 1 + length w) × All p w
 unfolding marked_at
 marked_taken {s} {i} {e} {t} m p h A r =
@@ -157,7 +158,7 @@ marked_taken {s} {i} {e} {t} m p h A r =
     (k.tail, k.rest, (rw f at k.cut), read_to (run_to p s (i + 1)) e a.1 ∙ k.end ∙ omega arith, k.all)
 
 pub marked_again : {s : List ℕ} {i : ℕ} (m : ℕ) (p : ℕ → Bool) (w post : List ℕ) → All p w → p (get_or post 0 0) ≡ false → At s i (m ∷ (w ++ post))
-    → marked_at m p s i ≡ Read.To (i + 1 + length w)
+    → marked_at m p s i ≡ Some (i + 1 + length w)
 unfolding marked_at
 marked_again {s} {i} m p w post h c A = rw (at_byte A, eq-eqb m m refl, run_at s p w post (i + 1) (at_one A) h c)
 
@@ -172,7 +173,7 @@ no_small : is_small 0 ≡ false
 unfolding is_small
 no_small = refl
 
-pub key_taken : {s : List ℕ} {i e : ℕ} {t : List ℕ} (A : At s i t) → key_at s i ≡ Read.To e → Taken Key s t i e
+pub key_taken : {s : List ℕ} {i e : ℕ} {t : List ℕ} (A : At s i t) → key_at s i ≡ Some e → Taken Key s t i e
 unfolding key_at
 key_taken {s} {i} {e} {t} A h =
     let a = read_if (is_small (get_or s i 0)) _ e h in
@@ -185,20 +186,20 @@ key_taken {s} {i} {e} {t} A h =
       good = record { head = k.head; tail = k.tail; is = refl; small = k.first; within = k.all };
     }
 
-pub key_again : {s : List ℕ} {i : ℕ} (w post : List ℕ) → Key w → in_tag (get_or post 0 0) ≡ false → At s i (w ++ post) → key_at s i ≡ Read.To (i + length w)
+pub key_again : {s : List ℕ} {i : ℕ} (w post : List ℕ) → Key w → in_tag (get_or post 0 0) ≡ false → At s i (w ++ post) → key_at s i ≡ Some (i + length w)
 unfolding key_at
 key_again {s} {i} w post C c A =
     let B = subst (λ z. At s i (z ++ post)) C.is A in
     rw (at_byte B, C.small, run_at s in_tag C.tail post (i + 1) (at_one B) C.within c)
-    (ap Read.To {x = i + 1 + length C.tail} {y = i + length w} (rw C.is (omega arith)))
+    (ap Some {x = i + 1 + length C.tail} {y = i + length w} (rw C.is (omega arith)))
 
 -- ---- strings: content and the closing quote
 
 pub record Content (o : Bool) (xs : List ℕ) : Type 0 where
-  pub again : (ys : List ℕ) (i : ℕ) → str_from o (xs ++ (34 ∷ ys)) i ≡ Read.To (i + length xs + 1)
+  pub again : (ys : List ℕ) (i : ℕ) → str_from o (xs ++ (34 ∷ ys)) i ≡ Some (i + length xs + 1)
 
 pub record Escape (xs : List ℕ) : Type 0 where
-  pub again : (ys : List ℕ) (i : ℕ) → esc_from (xs ++ (34 ∷ ys)) i ≡ Read.To (i + length xs + 1)
+  pub again : (ys : List ℕ) (i : ℕ) → esc_from (xs ++ (34 ∷ ys)) i ≡ Some (i + length xs + 1)
 
 pub record Str (G : List ℕ → Type 0) (u : List ℕ) (i e : ℕ) : Type 0 where
   pub xs : List ℕ
@@ -207,14 +208,14 @@ pub record Str (G : List ℕ → Type 0) (u : List ℕ) (i e : ℕ) : Type 0 whe
   pub end : e ≡ i + length xs + 1
   pub good : G xs
 
-str_step : (b : ℕ) (u : List ℕ) (o : Bool) (i e : ℕ) → str_from o (b ∷ u) i ≡ Read.To e
-    → (str_from true u (i + 1) ≡ Read.To e → Str (Content true) u (i + 1) e) → (esc_from u (i + 1) ≡ Read.To e → Str Escape u (i + 1) e)
+str_step : (b : ℕ) (u : List ℕ) (o : Bool) (i e : ℕ) → str_from o (b ∷ u) i ≡ Some e
+    → (str_from true u (i + 1) ≡ Some e → Str (Content true) u (i + 1) e) → (esc_from u (i + 1) ≡ Some e → Str Escape u (i + 1) e)
     → Str (Content o) (b ∷ u) i e
 unfolding str_from is_ordinary
 str_step b u o i e h f g = go (is_ordinary b) refl (eqb b 34) refl o refl h
   where
     go : (k : Bool) → is_ordinary b ≡ k → (q : Bool) → eqb b 34 ≡ q → (c : Bool) → o ≡ c
-        → cond k (str_from true u (i + 1)) (cond q (Read.To (i + 1)) (cond c (esc_from u (i + 1)) Read.Miss)) ≡ Read.To e → Str (Content o) (b ∷ u) i e
+        → cond k (str_from true u (i + 1)) (cond q (Some (i + 1)) (cond c (esc_from u (i + 1)) None)) ≡ Some e → Str (Content o) (b ∷ u) i e
     go true l q p c m h =
         let r = f h in
         record {
@@ -222,14 +223,14 @@ str_step b u o i e h f g = go (is_ordinary b) refl (eqb b 34) refl o refl h
           ys = r.ys;
           cut = ap (λ z. b ∷ z) r.cut;
           end = r.end ∙ omega arith;
-          good = record { again = λ ys j. rw l (r.good.again ys (j + 1) ∙ ap Read.To {x = j + 1 + length r.xs + 1} {y = j + suc (length r.xs) + 1} (omega arith)) };
+          good = record { again = λ ys j. rw l (r.good.again ys (j + 1) ∙ ap Some {x = j + 1 + length r.xs + 1} {y = j + suc (length r.xs) + 1} (omega arith)) };
         }
     go false l true p c m h = record {
       xs = [];
       ys = u;
       cut = ap (λ z. z ∷ u) (eqb-true b 34 p);
       end = read_to (i + 1) e h ∙ omega arith;
-      good = record { again = λ ys j. ap Read.To {x = j + 1} {y = j + 0 + 1} (omega arith) };
+      good = record { again = λ ys j. ap Some {x = j + 1} {y = j + 0 + 1} (omega arith) };
     }
     go false l false p true m h =
         let r = g h in
@@ -238,11 +239,11 @@ str_step b u o i e h f g = go (is_ordinary b) refl (eqb b 34) refl o refl h
           ys = r.ys;
           cut = ap (λ z. b ∷ z) r.cut;
           end = r.end ∙ omega arith;
-          good = record { again = λ ys j. rw (l, p, m) (r.good.again ys (j + 1) ∙ ap Read.To {x = j + 1 + length r.xs + 1} {y = j + suc (length r.xs) + 1} (omega arith)) };
+          good = record { again = λ ys j. rw (l, p, m) (r.good.again ys (j + 1) ∙ ap Some {x = j + 1 + length r.xs + 1} {y = j + suc (length r.xs) + 1} (omega arith)) };
         }
     go false l false p false m h = absurd (let z : ◌≡◌ {A = ℕ} 0 1 = cc in omega arith)
 
-esc_step : (b : ℕ) (u : List ℕ) (i e : ℕ) → esc_from (b ∷ u) i ≡ Read.To e → (str_from false u (i + 1) ≡ Read.To e → Str (Content false) u (i + 1) e) → Str Escape (b ∷ u) i e
+esc_step : (b : ℕ) (u : List ℕ) (i e : ℕ) → esc_from (b ∷ u) i ≡ Some e → (str_from false u (i + 1) ≡ Some e → Str (Content false) u (i + 1) e) → Str Escape (b ∷ u) i e
 unfolding esc_from
 esc_step b u i e h f = let a = read_if (is_escaped b) _ e h in go a.0 (f a.1)
   where
@@ -252,21 +253,21 @@ esc_step b u i e h f = let a = read_if (is_escaped b) _ e h in go a.0 (f a.1)
       ys = r.ys;
       cut = ap (λ z. b ∷ z) r.cut;
       end = r.end ∙ omega arith;
-      good = record { again = λ ys j. rw x (r.good.again ys (j + 1) ∙ ap Read.To {x = j + 1 + length r.xs + 1} {y = j + suc (length r.xs) + 1} (omega arith)) };
+      good = record { again = λ ys j. rw x (r.good.again ys (j + 1) ∙ ap Some {x = j + 1 + length r.xs + 1} {y = j + suc (length r.xs) + 1} (omega arith)) };
     }
 
 mutual
   unfolding str_from esc_from
 
-  str_taken : (u : List ℕ) (o : Bool) (i e : ℕ) → str_from o u i ≡ Read.To e → Str (Content o) u i e
+  str_taken : (u : List ℕ) (o : Bool) (i e : ℕ) → str_from o u i ≡ Some e → Str (Content o) u i e
   str_taken [] o i e h = absurd (let z : ◌≡◌ {A = ℕ} 0 1 = cc in omega arith)
   str_taken (b ∷ u) o i e h = str_step b u o i e h (λ k. str_taken u true (i + 1) e k) (λ k. esc_taken u (i + 1) e k)
 
-  esc_taken : (u : List ℕ) (i e : ℕ) → esc_from u i ≡ Read.To e → Str Escape u i e
+  esc_taken : (u : List ℕ) (i e : ℕ) → esc_from u i ≡ Some e → Str Escape u i e
   esc_taken [] i e h = absurd (let z : ◌≡◌ {A = ℕ} 0 1 = cc in omega arith)
   esc_taken (b ∷ u) i e h = esc_step b u i e h (λ k. str_taken u false (i + 1) e k)
 
-pub string_taken : {s : List ℕ} {i e : ℕ} {t : List ℕ} (A : At s i t) → string_at s i ≡ Read.To e → (u : List ℕ) × (t ≡ 34 ∷ u) × Str (Content false) u (i + 1) e
+pub string_taken : {s : List ℕ} {i e : ℕ} {t : List ℕ} (A : At s i t) → string_at s i ≡ Some e → (u : List ℕ) × (t ≡ 34 ∷ u) × Str (Content false) u (i + 1) e
 unfolding string_at
 string_taken {s} {i} {e} {t} A h =
     let a = read_if (eqb (get_or s i 0) 34) _ e h in
@@ -274,7 +275,7 @@ string_taken {s} {i} {e} {t} A h =
     let B = at_one (subst (At s i) k.2 A) in
     (k.1, rw (eqb-true k.0 34 k.3) at k.2, str_taken k.1 false (i + 1) e (rw B.here at a.1))
 
-pub string_again : {s : List ℕ} {i : ℕ} (xs post : List ℕ) → Content false xs → At s i (34 ∷ (xs ++ (34 ∷ post))) → string_at s i ≡ Read.To (i + 1 + length xs + 1)
+pub string_again : {s : List ℕ} {i : ℕ} (xs post : List ℕ) → Content false xs → At s i (34 ∷ (xs ++ (34 ∷ post))) → string_at s i ≡ Some (i + 1 + length xs + 1)
 unfolding string_at
 string_again {s} {i} xs post C A = rw (at_byte A, (at_one A).here, C.again post (i + 1))
 
@@ -357,13 +358,16 @@ no_part : starts_part 0 ≡ false
 unfolding starts_part is_capital is_digit
 no_part = refl
 
-account_if : (c : Bool) (x : AccountRead) (e : ℕ) → cond c x AccountRead.Miss ≡ AccountRead.To e → (c ≡ true) × (x ≡ AccountRead.To e)
+abbrev ends_at : ℕ → Result ℕ Stop
+ends_at j = Ok j
+
+account_if : (c : Bool) (x : Result ℕ Stop) (e : ℕ) → cond c x (Err Stop.Miss) ≡ Ok e → (c ≡ true) × (x ≡ Ok e)
 account_if true x e h = (refl, h)
 account_if false x e h = absurd (let z : ◌≡◌ {A = ℕ} 0 1 = cc in omega arith)
 
-account_hard : (c : Bool) (j e : ℕ) → cond c (AccountRead.To j) AccountRead.Hard ≡ AccountRead.To e → (c ≡ true) × (e ≡ j)
-account_hard true j e h = (refl, cc)
-account_hard false j e h = absurd (let z : ◌≡◌ {A = ℕ} 0 1 = cc in omega arith)
+account_hard : (c : Bool) (at j e : ℕ) → cond c (Ok j) (Err (Stop.Hard missing_part at)) ≡ Ok e → (c ≡ true) × (e ≡ j)
+account_hard true at j e h = (refl, cc)
+account_hard false at j e h = absurd (let z : ◌≡◌ {A = ℕ} 0 1 = cc in omega arith)
 
 -- what stands behind a first part
 behind : {s : List ℕ} {j : ℕ} {t : List ℕ} (A : At s j t) → part_follows s j ≡ true → (c : ℕ) × (v : List ℕ) × (t ≡ 58 ∷ c ∷ v) × (starts_part c ≡ true)
@@ -378,12 +382,12 @@ parts_two : (c : ℕ) (v : List ℕ) (i : ℕ) → starts_part c ≡ true → pa
 unfolding parts_from
 parts_two c v i h = rw (h, part_account c h, colon_out)
 
-pub account_taken : {s : List ℕ} {i e : ℕ} {t : List ℕ} (A : At s i t) → account_at s i ≡ AccountRead.To e → Taken Account s t i e
+pub account_taken : {s : List ℕ} {i e : ℕ} {t : List ℕ} (A : At s i t) → account_at s i ≡ Ok e → Taken Account s t i e
 unfolding account_at
 account_taken {s} {i} {e} {t} A h =
     let a = account_if (starts_part (get_or s i 0)) _ e h in
     let j = run_to in_account s (i + 1) in
-    let b = account_hard (part_follows s j) (parts_from (drop j s) j) e a.1 in
+    let b = account_hard (part_follows s j) i (parts_from (drop j s) j) e a.1 in
     let k = headed A starts_part in_account no_part a.0 in
     let B = (at_split (k.head ∷ k.tail) k.rest j (subst (At s i) k.cut A) k.end).1 in
     let f = behind B b.0 in
@@ -402,7 +406,7 @@ account_taken {s} {i} {e} {t} A h =
     }
 
 pub account_again : {s : List ℕ} {i : ℕ} (w post : List ℕ) → Account w → in_account (get_or post 0 0) ≡ false → eqb (get_or post 0 0) 58 ≡ false → At s i (w ++ post)
-    → account_at s i ≡ AccountRead.To (i + length w)
+    → account_at s i ≡ Ok (i + length w)
 unfolding account_at part_follows
 account_again {s} {i} w post C h k A =
     let xs = C.front in
@@ -411,4 +415,4 @@ account_again {s} {i} w post C h k A =
     let D : At s (i + 1 + length xs) ys = at_next xs ys (at_one B) in
     rw (at_byte B, C.starts, run_at s in_account xs ys (i + 1) (at_one B) C.within colon_out)
     (rw (at_byte D, at_byte (at_one D), C.joined, D.here, parts_two C.second (C.back ++ post) (i + 1 + length xs) C.joined, C.parts.again post (i + 1 + length xs + 1 + 1) h k)
-    (ap AccountRead.To {x = i + 1 + length xs + 1 + 1 + length C.back} {y = i + length w} (rw C.is (omega (arith, length-append xs (58 ∷ C.second ∷ C.back))))))
+    (ap ends_at {x = i + 1 + length xs + 1 + 1 + length C.back} {y = i + length w} (rw C.is (omega (arith, length-append xs (58 ∷ C.second ∷ C.back))))))

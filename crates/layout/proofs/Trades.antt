@@ -17,7 +17,7 @@ use Rattle.layout.specs.Written.{detail_text, kind_of, printed, date_text, head_
 use Rattle.layout.proofs.Texts.{Tidy}
 use Rattle.text.proofs.DayLaws.{Day}
 use Rattle.text.specs.Every.{Every}
-use Rattle.text.specs.Refusals.{required_number}
+use Rattle.text.specs.Refusals.{missing}
 use Rattle.layout.proofs.Neats.{neat_none}
 use Rattle.layout.proofs.Readings.{items, Fine, text_item, Reads, must_reads, skip_reads, and_reads}
 use Rattle.layout.proofs.Marks.{line_reads}
@@ -71,7 +71,7 @@ transaction_is {s} {g} {os} {ts} {ms} {ns} {ps} O T M N P v stop halt A =
     and_reads os (ts ++ (ms ++ (ns ++ ps))) (opening_is O _ A) (λ a B.
     and_reads ts (ms ++ (ns ++ ps)) (texts_is T M x B) (λ b C.
     and_reads ms (ns ++ ps) (marks_is M x C) (λ c D.
-    skip_reads (must_reads required_number c (line_reads D)) (λ d E.
+    skip_reads (must_reads missing c (line_reads D)) (λ d E.
     and_reads ns ps (metadata_is N (posts_text P v) (posts_stop P v stop) E) (λ e F. body_is P v stop halt F)))))
 
 module _ (s : List ℕ) (p n : ℕ) (r : List ℕ) (E : At s n r) (ks : List Item) (R : Trans s n ks) where

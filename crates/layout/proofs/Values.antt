@@ -1,4 +1,6 @@
 -- A value's text reads back as the value.
+use Rattle.decimal.specs.Faults.{Value}
+use Rattle.std.specs.Prelude.{Ok}
 use Prim.Native.Nat.{ℕ, zero, suc, ◌+◌, ◌-◌, ◌≤◌, ◌<◌}
 use native.Mathlib.Decide.{dec_lt}
 use native.Mathlib.Omega.{arith}
@@ -10,8 +12,6 @@ use lib.ListN.{drop, drop_of_length-le, length, get_or}
 use lib.Dec.{eqb}
 use Rattle.decimal.specs.Exact.{limit, sized, whole_of, decimal_of, twos_of, word_limit, minus_from}
 use Rattle.decimal.specs.declared.Form.TheVariants.{Rounding}
-use Rattle.decimal.specs.declared.Value.{Value}
-use Rattle.decimal.specs.declared.Value.TheVariants.{Known}
 use Rattle.text.specs.Bytes.{is_blank, is_space, is_digit}
 use Rattle.text.specs.Run.{run_from, run_to, blanks}
 use Rattle.text.specs.Answer.{To, Miss, ◌then◌, ◌else◌}
@@ -104,7 +104,7 @@ module _ (s : List ℕ) (n : ℕ) (h : n ≤ limit) (post : List ℕ) (c : in_li
   size_byte : is_digit (get_or s i 0) ≡ true
   size_byte = let z = size_head n in rw (at_byte A, z.2) z.3
 
-  unsigned_reads : (m : Bool) → unsigned m s i ≡ To (i + length (size_text n)) (Known (decimal_of m n))
+  unsigned_reads : (m : Bool) → unsigned m s i ≡ To (i + length (size_text n)) (Ok (decimal_of m n))
   unfolding unsigned literal_as
   unsigned_reads m =
       rw (
@@ -159,23 +159,23 @@ module _ (s : List ℕ) where
     times_there : (t : List ℕ) → At s i (t ++ post) → is_times (get_or s (blanks s (i + length t)) 0) ≡ false
     times_there t A = rw (past_blanks s post (i + length t) (at_next t post A)) c.times
 
-    up_literal : At s i (size_text n ++ post) → literal s i ≡ To (i + length (size_text n)) (Known (decimal_of false n))
+    up_literal : At s i (size_text n ++ post) → literal s i ≡ To (i + length (size_text n)) (Ok (decimal_of false n))
     unfolding literal
     up_literal A = rw (digit_minus (get_or s i 0) (size_byte s n h post c.ends i A)) (unsigned_reads s n h post c.ends i A false)
 
-    down_literal : At s i (45 ∷ (size_text n ++ post)) → literal s i ≡ To (i + length (45 ∷ size_text n)) (Known (decimal_of true n))
+    down_literal : At s i (45 ∷ (size_text n ++ post)) → literal s i ≡ To (i + length (45 ∷ size_text n)) (Ok (decimal_of true n))
     unfolding literal
     down_literal A =
         rw (at_byte A) (unsigned_reads s n h post c.ends (i + 1) (at_one A) true ∙ ap
-        (λ z. To z (Known (decimal_of true n))) {x = i + 1 + length (size_text n)} {y = i + suc (length (size_text n))} (omega arith))
+        (λ z. To z (Ok (decimal_of true n))) {x = i + 1 + length (size_text n)} {y = i + suc (length (size_text n))} (omega arith))
 
-    signed_reads : (m : Bool) → At s i (cond m (45 ∷ size_text n) (size_text n) ++ post) → expression s i ≡ To (i + length (cond m (45 ∷ size_text n) (size_text n))) (Known (decimal_of m n))
-    signed_reads false A = whole (i + length (size_text n)) (Known (decimal_of false n)) i (up_literal A) (plus_there (size_text n) A) (times_there (size_text n) A)
-    signed_reads true A = whole (i + length (45 ∷ size_text n)) (Known (decimal_of true n)) i (down_literal A) (plus_there (45 ∷ size_text n) A) (times_there (45 ∷ size_text n) A)
+    signed_reads : (m : Bool) → At s i (cond m (45 ∷ size_text n) (size_text n) ++ post) → expression s i ≡ To (i + length (cond m (45 ∷ size_text n) (size_text n))) (Ok (decimal_of m n))
+    signed_reads false A = whole (i + length (size_text n)) (Ok (decimal_of false n)) i (up_literal A) (plus_there (size_text n) A) (times_there (size_text n) A)
+    signed_reads true A = whole (i + length (45 ∷ size_text n)) (Ok (decimal_of true n)) i (down_literal A) (plus_there (45 ∷ size_text n) A) (times_there (45 ∷ size_text n) A)
 
 -- the text of a value, where nothing goes on from it, reads as an expression of that value
 pub value_reads : (s : List ℕ) (v : ℕ) (F : Form v) (post : List ℕ) → Calm post → (i : ℕ) → At s i (value_text v ++ post)
-    → expression s i ≡ To (i + length (value_text v)) (Known (decimal_of F.minus F.size))
+    → expression s i ≡ To (i + length (value_text v)) (Ok (decimal_of F.minus F.size))
 value_reads s v F post c i A =
     let t = F.text in
     rw t (signed_reads s F.size F.small post c i F.minus (subst (λ z. At s i (z ++ post)) t A))

@@ -1,4 +1,5 @@
 -- Option, include, pushtag and poptag, renewed.
+use Rattle.std.specs.Prelude.{Some}
 use Prim.Native.Nat.{ℕ, ◌+◌, ◌<◌}
 use Prim.Native.String.{String}
 use native.Mathlib.Omega.{arith}
@@ -14,14 +15,13 @@ use Rattle.text.specs.Run.{run_to}
 use Rattle.text.specs.Dates.{like_shape, date_shape, date_at, as_shape}
 use Rattle.text.specs.Words.{starts_with}
 use Rattle.text.specs.Tags.{marked_at}
-use Rattle.text.specs.declared.Read.{Read}
 use Rattle.text.proofs.Ats.{At, at_next, at_one, at_start_lem}
 use Rattle.text.proofs.Inversions.{and_inv, must_inv, token_inv, to_inv}
 use Rattle.text.proofs.TestLaws.{absurd_bool}
 use Rattle.text.proofs.TokenEnds.{word_reach}
 use Rattle.text.specs.Every.{Every}
 use Rattle.amount.specs.Details.{span, Rows, quoted}
-use Rattle.text.specs.Refusals.{required_number, word_gap_number}
+use Rattle.text.specs.Refusals.{missing, missing_gap}
 use Rattle.amount.specs.declared.detail.Detail.{Detail}
 use Rattle.content.specs.Contents.{hard_string}
 use Rattle.entry.specs.Forms.{blank, directive, Form as Entry, as_entry, form_of}
@@ -171,8 +171,8 @@ include_is : {s : List ℕ} {i : ℕ} (a v : List ℕ) → Phrase a → At s i (
 unfolding include
 include_is {s} {i} a v C A =
     skip_reads (word_reads (bytes "include") _ A) (λ e E.
-    skip_reads (hard_gap_is word_gap_number (quote_blank a _) E) (λ g G.
-    and_reads (text_item 34 a ∷ []) [] (hard_string_is s g a (10 ∷ v) C G) (λ l L. must_reads required_number l (line_reads L))))
+    skip_reads (hard_gap_is missing_gap (quote_blank a _) E) (λ g G.
+    and_reads (text_item 34 a ∷ []) [] (hard_string_is s g a (10 ∷ v) C G) (λ l L. must_reads missing l (line_reads L))))
 
 option_was : (s : List ℕ) (i j : ℕ) (t : List ℕ) (rs : List Detail) → Tidy s → At s i t → option s i ≡ To j rs
     → (a : List ℕ) × (b : List ℕ) × Phrase a × Phrase b × (items s rs ≡ text_item 34 a ∷ text_item 34 b ∷ [])
@@ -198,12 +198,12 @@ unfolding include
 include_was s i j t rs T A h f =
     let a = and_inv (word (bytes "include") s i) _ j rs h in
     let B = reached {s = s} (word_reach s i (omega (arith, A.fits)) (bytes "include")) a.3 in
-    let b = and_inv (hard_gap word_gap_number s a.0) _ j a.2 a.4 in
-    let G = hard_gap_was word_gap_number B b.3 in
+    let b = and_inv (hard_gap missing_gap s a.0) _ j a.2 a.4 in
+    let G = hard_gap_was missing_gap B b.3 in
     let c = and_inv (hard_string s b.0) _ j b.2 b.4 in
     let p : rs ≡ c.1 =
     a.5 ∙ ap (λ z. z ++ a.2) (word_empty (bytes "include") s i a.0 a.1 a.3) ∙ b.5 ∙ ap (λ z. z ++ b.2) G.0 ∙ c.5
-    ∙ ap (λ z. c.1 ++ z) (line_empty s c.0 j c.2 (must_inv required_number c.0 _ j c.2 c.4)) ∙ append-nil c.1 in
+    ∙ ap (λ z. c.1 ++ z) (line_empty s c.0 j c.2 (must_inv missing c.0 _ j c.2 c.4)) ∙ append-nil c.1 in
     let C = hard_string_was s b.0 c.0 _ c.1 T G.1 c.3 (subst (Every Fine) p f) in
     subst (λ z. IsText Phrase 34 (items s z)) (sym p) C.is
 
@@ -239,7 +239,7 @@ tag_none : in_tag 0 ≡ false
 unfolding in_tag is_capital is_small is_digit
 tag_none = refl
 
-marked_run : (s : List ℕ) (i j : ℕ) → marked_at 35 in_tag s i ≡ Read.To j → j ≡ run_to in_tag s (i + 1)
+marked_run : (s : List ℕ) (i j : ℕ) → marked_at 35 in_tag s i ≡ Some j → j ≡ run_to in_tag s (i + 1)
 unfolding marked_at
 marked_run s i j h = read_to _ j (read_if (eqb (get_or s i 0) 35) _ j h).1
 
@@ -259,7 +259,7 @@ tagged_was w s i j t rs A h =
     let p : rs ≡ span 23 (b.0 + 1) j ∷ [] =
     a.5 ∙ ap (λ z. z ++ a.2) (word_empty (bytes w) s i a.0 a.1 a.3) ∙ b.5 ∙ ap (λ z. z ++ b.2) G.0 ∙ c.5 ∙ ap (λ z. z ++ c.2) d.1 ∙ e.1
     ∙ ap (λ z. span 23 (b.0 + 1) z ∷ []) e.0 in
-    (one_span s (All in_tag) 23 (b.0 + 1) j rs _ tag_kind_lem p refl (subst (All in_tag) (sym x.0) M.4), run_past in_tag tag_none s (b.0 + 1) j (marked_run s b.0 j (d.0 ∙ ap Read.To e.0)))
+    (one_span s (All in_tag) 23 (b.0 + 1) j rs _ tag_kind_lem p refl (subst (All in_tag) (sym x.0) M.4), run_past in_tag tag_none s (b.0 + 1) j (marked_run s b.0 j (d.0 ∙ ap Some e.0)))
 
 tagged_is : {s : List ℕ} {i : ℕ} (w : String) (t v : List ℕ) → All in_tag t → in_tag (get_or v 0 0) ≡ false → At s i (bytes w ++ (32 ∷ 35 ∷ (t ++ v))) → Reads s (tagged w s i) (text_item 23 t ∷ []) v
 unfolding tagged tag

@@ -1,4 +1,5 @@
 -- Strict reading's judgement: over lists of rows, of rows further on, and of the rows of an entry.
+use Rattle.std.specs.Prelude.{None, Option, Some}
 use Prim.Native.Nat.{ℕ, ◌+◌, ◌-◌, ◌≤◌}
 use native.Mathlib.Omega.{arith}
 use mathlib.Core.Path.{◌≡◌, refl, ap}
@@ -69,15 +70,16 @@ quiet_rows a s u k j (d ∷ ds) w h =
     rw (quiet_row s (detail_row u d) (λ e. omega (arith, h.0)) (λ e. omega (arith, h.0))) (quiet_rows a s u d.start j ds w h.2)
 
 -- an objection of an entry at place a, or w
-abbrev pub held_by : ℕ → Objection → Reading → Reading
-held_by a o w = cond (eqb o.number 0) w (denied o.number (a + o.place))
+abbrev pub held_by : ℕ → Option Objection → Reading → Reading
+held_by a None w = w
+held_by a (Some o) w = denied o.number (a + o.place)
 
 module _ (a : ℕ) (s : List ℕ) (n : ℕ) (f : Form) (w : Reading) where
   line_bad : f.kind ≡ 1 → f.details ≡ [] → bad_from a s (rows_of s n f) w ≡ held_by a (entry_objection f.kind n s) w
   unfolding bad_from rows_of row_of objection entry_objection lost_of
   line_bad k d = rw (k, d) (go (lost_line (between s 0 n)))
     where
-      go : (t : Bool) → cond (eqb (cond t 16 0) 0) w (denied (cond t 16 0) (a + 0)) ≡ held_by a (cond t (objection_of 16 0) (objection_of 0 0)) w
+      go : (t : Bool) → cond (eqb (cond t 16 0) 0) w (denied (cond t 16 0) (a + 0)) ≡ held_by a (cond t (Some (objection_of 16 0)) None) w
       go true = refl
       go false = refl
 
@@ -109,11 +111,11 @@ module _ (a : ℕ) (s u : List ℕ) (k j : ℕ) (others : List Detail) (w : Read
   abbrev B : ℕ
   B = get_or s G 0
 
-  flag_bad : is_flag B ≡ true → bad_from a s (map (detail_row u) (span flag_kind G (G + 1) ∷ others)) w ≡ held_by a (cond (flag_passes B) (objection_of 0 0) (objection_of 17 G)) w
+  flag_bad : is_flag B ≡ true → bad_from a s (map (detail_row u) (span flag_kind G (G + 1) ∷ others)) w ≡ held_by a (cond (flag_passes B) None (Some (objection_of 17 G))) w
   unfolding bad_from detail_row row_of objection flag_passes
   flag_bad p = rw (flag_text_lem s G, flag_not_small B p, quiet_rows a s u k j others w q) (go (eqb B 42 || eqb B 33))
     where
-      go : (x : Bool) → cond (eqb (cond (not x) 17 0) 0) w (denied (cond (not x) 17 0) (a + blanks s 10)) ≡ held_by a (cond (x || false) (objection_of 0 0) (objection_of 17 (blanks s 10))) w
+      go : (x : Bool) → cond (eqb (cond (not x) 17 0) 0) w (denied (cond (not x) 17 0) (a + blanks s 10)) ≡ held_by a (cond (x || false) None (Some (objection_of 17 (blanks s 10)))) w
       go true = refl
       go false = refl
 
@@ -123,7 +125,7 @@ module _ (a : ℕ) (s u : List ℕ) (k j : ℕ) (others : List Detail) (w : Read
     where
       go : (t : Bool) → is_flag (get_or s (blanks s 10) 0) ≡ t
           → bad_from a s (map (detail_row u) (cond t (span flag_kind (blanks s 10) (blanks s 10 + 1) ∷ []) [] ++ others)) w
-          ≡ held_by a (cond (flag_passes (get_or s (blanks s 10) 0)) (objection_of 0 0) (objection_of 17 (blanks s 10))) w
+          ≡ held_by a (cond (flag_passes (get_or s (blanks s 10) 0)) None (Some (objection_of 17 (blanks s 10)))) w
       go true p = flag_bad p
       go false p = rw (small_passes (get_or s (blanks s 10) 0) (sm p)) (quiet_rows a s u k j others w q)
 

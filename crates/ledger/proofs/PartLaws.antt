@@ -1,5 +1,8 @@
 -- Plain reading of a part of a ledger: its bytes first, then its entries. A part that stands further on gives its rows
 -- moved.
+use Rattle.text.specs.declared.stop.Refused.{Refused}
+use Rattle.text.specs.Refusals.{refused_with}
+use Rattle.std.specs.Prelude.{Err, Result}
 use Prim.Native.Nat.{ℕ, ◌+◌, ◌≤◌, ◌<◌}
 use native.Mathlib.Nat.{zero-add, add-zero}
 use mathlib.Core.Path.{◌≡◌, sym, ◌∙◌, ap}
@@ -12,7 +15,6 @@ use Rattle.text.specs.Permitted.{clean}
 use Rattle.ledger.specs.Plain.{denied, read_from, part_at, part}
 use Rattle.ledger.specs.steps.Scan.{moved_reading, scanned, scanned_by, part_at_by, scan_answer, ScanPoured}
 use Rattle.ledger.specs.Strict.{strictly}
-use Rattle.ledger.specs.declared.scan.Scan.{Scan}
 use Rattle.ledger.specs.declared.scan.Profile.{Profile}
 use Rattle.ledger.specs.declared.scan.Profile.TheVariants.{Plain, Strict}
 use Rattle.ledger.proofs.MoveLaws.{read_move}
@@ -48,7 +50,7 @@ module _ (k : Profile) (a : ℕ) (s : List ℕ) (c : ℕ) (e : c ≡ clean s) wh
     part_denied Plain = bytes_denied a
     part_denied Strict = ap (λ x. moved_reading a 0 (strictly s x)) (bytes_denied 0) ∙ ap (λ z. denied 2 (a + z)) (zero-add c)
 
-    pub part_byte : Scan.Stopped 2 (a + c) ≡ scan_answer (part_at_by k a s)
+    pub part_byte : Err (refused_with 2 (a + c) 0) ≡ scan_answer (part_at_by k a s)
     unfolding scan_answer
     part_byte = rw (part_denied k)
 
@@ -59,7 +61,7 @@ module _ (k : Profile) (a : ℕ) (s : List ℕ) (c : ℕ) (e : c ≡ clean s) wh
     all_stand : part_at_by k a s ≡ scanned_by k a s
     all_stand = part_by_scanned k a s (rw e at h)
 
-    pub part_entries : (m : Scan) → m ≡ scan_answer (scanned_by k a s) → m ≡ scan_answer (part_at_by k a s)
+    pub part_entries : (m : Result ℕ Refused) → m ≡ scan_answer (scanned_by k a s) → m ≡ scan_answer (part_at_by k a s)
     part_entries m q = rw all_stand q
 
     pub part_poured : (t u : List ℕ) → ScanPoured (scanned_by k a s) t u → ScanPoured (part_at_by k a s) t u

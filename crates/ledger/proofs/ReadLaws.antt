@@ -1,4 +1,7 @@
 -- Plain reading: its answers and its table, each from what the code knows where it answers.
+use Rattle.text.specs.declared.stop.Refused.{Refused}
+use Rattle.text.specs.Refusals.{refused_with}
+use Rattle.std.specs.Prelude.{Err, Ok, Result}
 use Prim.Native.Nat.{ℕ, ◌+◌, ◌*◌, ◌-◌, ◌≤◌, ◌<◌}
 use native.Mathlib.Nat.{zero-add}
 use native.Mathlib.Omega.{arith}
@@ -22,8 +25,6 @@ use Rattle.row.proofs.PourLaws.{pour_all, pour_append, pour_at_full, pour_at_zer
 use Rattle.ledger.specs.Plain.{move, moved, Reading, accepted, denied, read_from, part_at, part, plain}
 use Rattle.ledger.specs.Answers.{answer, left}
 use Rattle.ledger.specs.steps.Scan.{with_line, moved_reading, scanned, part_at_by, scan_answer, ScanPoured}
-use Rattle.ledger.specs.declared.read.Answer.{Answer}
-use Rattle.ledger.specs.declared.scan.Scan.{Scan}
 use Rattle.ledger.specs.declared.scan.Profile.{Profile}
 use Rattle.ledger.specs.declared.scan.Profile.TheVariants.{Plain, Strict}
 use Rattle.ledger.proofs.PlainLaws.{part_kept}
@@ -96,17 +97,21 @@ filled n rs t v e h (xs, p) =
 -- ---- the second pass: the first answered that n rows are wanted
 
 -- what a verdict says of a reading
-pub whole_reads : (n : ℕ) (x : Reading) → Scan.Whole n ≡ scan_answer x → (rs : List Row) × (x ≡ accepted rs) × (n ≡ length rs)
+pub whole_reads : (n : ℕ) (x : Reading) → Ok n ≡ scan_answer x → (rs : List Row) × (x ≡ accepted rs) × (n ≡ length rs)
 unfolding scan_answer
 whole_reads n (accepted rs) q = (rs, refl, cc)
 whole_reads n (denied i p) q = absurd (let z : ◌≡◌ {A = ℕ} 0 1 = cc in omega arith)
 
-pub stopped_denies : (n p : ℕ) (x : Reading) → Scan.Stopped n p ≡ scan_answer x → x ≡ denied n p
+pub stopped_denies : (r : Refused) (x : Reading) → Err r ≡ scan_answer x → (x ≡ denied r.number r.place) × (r ≡ refused_with r.number r.place 0)
 unfolding scan_answer
-stopped_denies n p (accepted rs) q = absurd (let y : ◌≡◌ {A = ℕ} 0 1 = cc in omega arith)
-stopped_denies n p (denied j o) q = cc
+stopped_denies r (accepted rs) q = absurd (let y : ◌≡◌ {A = ℕ} 0 1 = cc in omega arith)
+stopped_denies r (denied j o) q =
+    let z : r ≡ refused_with j o 0 = cc in
+    let a : r.number ≡ j = ap (λ (y : Refused). y.number) z in
+    let b : r.place ≡ o = ap (λ (y : Refused). y.place) z in
+    (rw (a, b) refl, z ∙ rw (a, b) refl)
 
-module _ (k : Profile) (s : List ℕ) (n : ℕ) (w : Scan.Whole n ≡ scan_answer (reading_by k s)) where
+module _ (k : Profile) (s : List ℕ) (n : ℕ) (w : Ok n ≡ scan_answer (reading_by k s)) where
   was_whole : (rs : List Row) × (reading_by k s ≡ accepted rs) × (n ≡ length rs)
   was_whole = whole_reads n (reading_by k s) w
 
@@ -117,7 +122,11 @@ module _ (k : Profile) (s : List ℕ) (n : ℕ) (w : Scan.Whole n ≡ scan_answe
   pub whole_small : 0 + length s ≤ size_limit
   whole_small = omega (arith, rows_whole)
 
-module _ (k : Profile) (s : List ℕ) (n : ℕ) (w : Scan.Whole n ≡ scan_answer (reading_by k s)) (t : List ℕ) where
+-- a table too short for n rows
+abbrev pub too_short_by : ℕ → Result ℕ Refused
+too_short_by n = Err (refused_with 9 0 n)
+
+module _ (k : Profile) (s : List ℕ) (n : ℕ) (w : Ok n ≡ scan_answer (reading_by k s)) (t : List ℕ) where
   abbrev rows : (rs : List Row) × (reading_by k s ≡ accepted rs) × (n ≡ length rs)
   rows = was_whole k s n w
 
@@ -125,9 +134,9 @@ module _ (k : Profile) (s : List ℕ) (n : ℕ) (w : Scan.Whole n ≡ scan_answe
     short : room t < length rows.0
     short = omega (arith, rows.2)
 
-    pub written_full : (r : Answer) → r ≡ Answer.Refusal 9 0 n → r ≡ answer (reading_by k s) (room t)
+    pub written_full : (r : Result ℕ Refused) → r ≡ Err (refused_with 9 0 n) → r ≡ answer (reading_by k s) (room t)
     unfolding answer
-    written_full r e = e ∙ ap (Answer.Refusal 9 0) rows.2 ∙ rw (rows.1, lt-leb (length rows.0) (room t) short)
+    written_full r e = e ∙ ap (λ (z : ℕ). too_short_by z) rows.2 ∙ rw (rows.1, lt-leb (length rows.0) (room t) short)
 
     pub written_none : t ≡ left (reading_by k s) t
     unfolding left
@@ -137,9 +146,9 @@ module _ (k : Profile) (s : List ℕ) (n : ℕ) (w : Scan.Whole n ≡ scan_answe
     enough : length rows.0 ≤ room t
     enough = omega (arith, rows.2)
 
-    pub written_rows : Answer.Rows n ≡ answer (reading_by k s) (room t)
+    pub written_rows : Ok n ≡ answer (reading_by k s) (room t)
     unfolding answer
-    written_rows = ap Answer.Rows rows.2 ∙ rw (rows.1, le-leb (length rows.0) (room t) enough)
+    written_rows = ap Ok rows.2 ∙ rw (rows.1, le-leb (length rows.0) (room t) enough)
 
     pub written_table : (v u : List ℕ) → ScanPoured (scanned 0 s) (take (n * width - 0) (drop 0 t)) v → u ≡ lines_set s n (put_mid 0 (n * width - 0) t v) → u ≡ left (reading_by k s) t
     written_table v u p q =
@@ -159,7 +168,7 @@ pub ruleset written_laws = (whole_small, written_full, written_none, written_row
 
 -- a reading that is refused leaves the table
 module _ (k : Profile) (s : List ℕ) (i p : ℕ) (e : reading_by k s ≡ denied i p) where
-  denied_answer : (room : ℕ) → Answer.Refusal i p 0 ≡ answer (reading_by k s) room
+  denied_answer : (room : ℕ) → Err (refused_with i p 0) ≡ answer (reading_by k s) room
   unfolding answer
   denied_answer room = rw e
 
@@ -175,11 +184,11 @@ stays_denied Strict s i p e = ap (strictly s) e
 
 -- ---- the verdict: of a ledger that is too large, and of one that is read
 
-pub verdict_large : (k : Profile) (s : List ℕ) → size_limit < length s → Scan.Stopped 1 0 ≡ scan_answer (reading_by k s)
+pub verdict_large : (k : Profile) (s : List ℕ) (r : Refused) → size_limit < length s → r ≡ refused_with 1 0 0 → Err r ≡ scan_answer (reading_by k s)
 unfolding scan_answer plain
-verdict_large k s h = rw (stays_denied k s 1 0 (rw (lt-leb (length s) size_limit h)))
+verdict_large k s r h q = rw (stays_denied k s 1 0 (rw (lt-leb (length s) size_limit h)), q)
 
-pub verdict_part : (k : Profile) (s : List ℕ) (m : Scan) → length s ≤ size_limit → m ≡ scan_answer (part_at_by k 0 s) → m ≡ scan_answer (reading_by k s)
+pub verdict_part : (k : Profile) (s : List ℕ) (m : Result ℕ Refused) → length s ≤ size_limit → m ≡ scan_answer (part_at_by k 0 s) → m ≡ scan_answer (reading_by k s)
 unfolding plain
 verdict_part Plain s m l q = rw (le-leb (length s) size_limit l) q
 verdict_part Strict s m l q = rw (le-leb (length s) size_limit l) (q ∙ ap scan_answer (moved_none (strictly s (part s))))
@@ -188,18 +197,21 @@ pub ruleset verdict_laws = (verdict_large, verdict_part)
 
 -- ---- a verdict v that is a refusal, or not
 
-module _ (k : Profile) (s : List ℕ) (v : Scan) (q : v ≡ scan_answer (reading_by k s)) where
-  module _ (n p : ℕ) (i : v ≡ Scan.Stopped n p) where
-    was_denied : reading_by k s ≡ denied n p
-    was_denied = stopped_denies n p (reading_by k s) (sym i ∙ q)
+abbrev stopped_with : Refused → Result ℕ Refused
+stopped_with r = Err r
 
-    pub read_stopped : (r : Answer) (room : ℕ) → r ≡ Answer.Refusal n p 0 → r ≡ answer (reading_by k s) room
-    read_stopped r room z = z ∙ denied_answer k s n p was_denied room
+module _ (k : Profile) (s : List ℕ) (v : Result ℕ Refused) (q : v ≡ scan_answer (reading_by k s)) where
+  module _ (x : Refused) (i : v ≡ Err x) where
+    was_denied : (reading_by k s ≡ denied x.number x.place) × (x ≡ refused_with x.number x.place 0)
+    was_denied = stopped_denies x (reading_by k s) (sym i ∙ q)
+
+    pub read_stopped : (room : ℕ) → Err x ≡ answer (reading_by k s) room
+    read_stopped room = ap (λ (y : Refused). stopped_with y) was_denied.1 ∙ denied_answer k s x.number x.place was_denied.0 room
 
     pub read_stopped_left : (t : List ℕ) → t ≡ left (reading_by k s) t
-    read_stopped_left = denied_left k s n p was_denied
+    read_stopped_left = denied_left k s x.number x.place was_denied.0
 
-  pub read_whole : (n : ℕ) → v ≡ Scan.Whole n → Scan.Whole n ≡ scan_answer (reading_by k s)
+  pub read_whole : (n : ℕ) → v ≡ Ok n → Ok n ≡ scan_answer (reading_by k s)
   read_whole n i = sym i ∙ q
 
 pub ruleset read_laws = (read_stopped, read_stopped_left, read_whole)

@@ -1,4 +1,8 @@
 -- A scan of a ledger, entry by entry: what the code has done when it has reached a place.
+use Rattle.text.specs.Refusals.{refused_with}
+use Rattle.entry.specs.declared.entry.Entry.{Entry}
+use Rattle.text.specs.declared.stop.Refused.{Refused}
+use Rattle.std.specs.Prelude.{Err, Ok, Result}
 use Prim.Native.Nat.{ℕ, suc, ◌+◌, ◌-◌, ◌≤◌, ◌<◌}
 use native.Mathlib.Omega.{arith}
 use mathlib.Core.Path.{◌≡◌, refl, sym, ◌∙◌, ap, subst}
@@ -18,7 +22,6 @@ use Rattle.row.proofs.OutLaws.{poured_none, poured_then}
 use Rattle.row.proofs.TableLaws.{lent_on}
 use Rattle.entry.specs.Forms.{form_of}
 use Rattle.entry.specs.Entry.{Reads, got, refuse, entry_of}
-use Rattle.entry.specs.declared.entry.Entry.{Entry}
 use Rattle.entry.specs.steps.Settled.{own_row, kind_of, entry_answer, form_rows, EntryPoured}
 use Rattle.entry.proofs.EntryForms.{entry_form, entry_sound}
 use Rattle.entry.proofs.EntryTold.{entry_few}
@@ -95,76 +98,80 @@ scan_start a s t =
 
 -- ---- a turn: r is the code's answer to the entry there, v its table from row n on
 
-module _ (a : ℕ) (s u : List ℕ) (at n : ℕ) (t : List ℕ) (g : Reached a s u at n t) (h : at < length s) (r : Entry)
+module _ (a : ℕ) (s u : List ℕ) (at n : ℕ) (t : List ℕ) (g : Reached a s u at n t) (h : at < length s) (r : Result Entry Refused)
     (w₀ : r ≡ entry_answer (entry_of (take (length s - at) (drop at s)))) where
   -- what an entry that was read is
-  pub turn_was : (k m q : ℕ) → r ≡ Entry.Read k m q → (rs : List Row) × (entry_of (drop at s) ≡ got m rs) × (q ≡ length rs) × (k ≡ kind_of rs)
+  pub turn_was : (y : Entry) → r ≡ Ok y → (rs : List Row) × (entry_of (drop at s) ≡ got y.size rs) × (y.rows ≡ length rs) × (y.kind ≡ kind_of rs)
   unfolding entry_answer
-  turn_was k m q e = go (entry_of (drop at s)) refl (sym e ∙ w₀ ∙ ap (λ x. entry_answer (entry_of x)) (rest_of s at))
+  turn_was y e = go (entry_of (drop at s)) refl (sym e ∙ w₀ ∙ ap (λ x. entry_answer (entry_of x)) (rest_of s at))
     where
-      go : (x : Reads) → entry_of (drop at s) ≡ x → Entry.Read k m q ≡ entry_answer x
-          → (rs : List Row) × (entry_of (drop at s) ≡ got m rs) × (q ≡ length rs) × (k ≡ kind_of rs)
-      go (got j rs) p w = let i : j ≡ m = cc in (rs, p ∙ ap (λ k. got k rs) i, cc, cc)
+      go : (x : Reads) → entry_of (drop at s) ≡ x → Ok y ≡ entry_answer x
+          → (rs : List Row) × (entry_of (drop at s) ≡ got y.size rs) × (y.rows ≡ length rs) × (y.kind ≡ kind_of rs)
+      go (got j rs) p w =
+          let z : y ≡ record { kind = kind_of rs; size = j; rows = length rs } = cc in
+          (rs, p ∙ ap (λ (k : ℕ). got k rs) (sym (ap (λ (k : Entry). k.size) z)), ap (λ (k : Entry). k.rows) z, ap (λ (k : Entry). k.kind) z)
       go (refuse i j) p w = absurd (let z : ◌≡◌ {A = ℕ} 0 1 = cc in omega arith)
 
-  turn_refused : (k p : ℕ) → r ≡ Entry.Refused k p → entry_of (drop at s) ≡ refuse k p
+  turn_refused : (x : Refused) → r ≡ Err x → entry_of (drop at s) ≡ refuse x.number x.place
   unfolding entry_answer
-  turn_refused k p e = go (entry_of (drop at s)) refl (sym e ∙ w₀ ∙ ap (λ x. entry_answer (entry_of x)) (rest_of s at))
+  turn_refused x e = go (entry_of (drop at s)) refl (sym e ∙ w₀ ∙ ap (λ x. entry_answer (entry_of x)) (rest_of s at))
     where
-      go : (x : Reads) → entry_of (drop at s) ≡ x → Entry.Refused k p ≡ entry_answer x → entry_of (drop at s) ≡ refuse k p
+      go : (y : Reads) → entry_of (drop at s) ≡ y → Err x ≡ entry_answer y → entry_of (drop at s) ≡ refuse x.number x.place
       go (got j rs) q w = absurd (let z : ◌≡◌ {A = ℕ} 0 1 = cc in omega arith)
-      go (refuse i j) q w = let y : i ≡ k = cc in let z : j ≡ p = cc in rw (← y, ← z) q
+      go (refuse i j) q w =
+          let z : x ≡ refused_with i j 0 = cc in
+          rw (ap (λ (y : Refused). y.number) z, ap (λ (y : Refused). y.place) z) q
 
-  module _ (k m q : ℕ) (e : r ≡ Entry.Read k m q) where
-    turn_bounds : (0 < m) × (at + m ≤ length s) × (q ≤ m)
+  module _ (y : Entry) (e : r ≡ Ok y) where
+    turn_bounds : (0 < y.size) × (at + y.size ≤ length s) × (y.rows ≤ y.size)
     turn_bounds =
-        let z = turn_was k m q e in
-        omega (arith, entry_sound (drop at s) m z.0 z.1, entry_few (drop at s) m z.0 z.1, z.2, length-drop at s)
+        let z = turn_was y e in
+        omega (arith, entry_sound (drop at s) y.size z.0 z.1, entry_few (drop at s) y.size z.0 z.1, z.2, length-drop at s)
 
     pub turn_read : (i : ℕ) (v : List ℕ) → i ≡ place_of n (length t)
         → EntryPoured (entry_of (take (length s - at) (drop at s))) (a + at) (take (length s - at) (drop at s)) (take (length t - i) (drop i t)) v
-        → Reached a s u (at + m) (n + q) (put_mid i (length t - i) t v)
+        → Reached a s u (at + y.size) (n + y.rows) (put_mid i (length t - i) t v)
     turn_read i v ei w =
-        let z = turn_was k m q e in
+        let z = turn_was y e in
         let b = turn_bounds in
         let new = moved (a + at) g.line z.0 in
         let part = take (length t - i) (drop i t) in
-        let y = subst (λ x. EntryPoured x (a + at) (drop at s) part v) z.1 (subst (λ x. EntryPoured (entry_of x) (a + at) x part v) (rest_of s at) w) in
-        let rs = map (with_line 0) new ++ y.0 in
-        let x : v ≡ pour rs part = y.1 ∙ ap (λ k. pour_at 0 (k ++ y.0) part) (rows_laid (a + at) g.line (drop at s) m z.0 z.1) ∙ pour_at_zero rs part in
+        let w₁ = subst (λ x. EntryPoured x (a + at) (drop at s) part v) z.1 (subst (λ x. EntryPoured (entry_of x) (a + at) x part v) (rest_of s at) w) in
+        let rs = map (with_line 0) new ++ w₁.0 in
+        let x : v ≡ pour rs part = w₁.1 ∙ ap (λ k. pour_at 0 (k ++ w₁.0) part) (rows_laid (a + at) g.line (drop at s) y.size z.0 z.1) ∙ pour_at_zero rs part in
         record {
           rows = g.rows ++ new;
-          line = g.line + feeds (take m (drop at s));
+          line = g.line + feeds (take y.size (drop at s));
           count = rw (length-append, length-map) (omega (arith, g.count, z.2));
           few = omega (arith, g.few, b);
           inside = omega (arith, b);
-          table = poured_on g.rows new n t (put_mid i (length t - i) t v) u g.count g.table (y.0, lent_on n rs t ei x);
+          table = poured_on g.rows new n t (put_mid i (length t - i) t v) u g.count g.table (w₁.0, lent_on n rs t ei x);
           rest =
               g.rest
-              ∙ ap (after g.rows) (read_on a s at g.line m z.0 h z.1)
-              ∙ after_after g.rows new (read_from (length s - (at + m)) (a + (at + m)) (g.line + feeds (take m (drop at s))) (drop (at + m) s));
+              ∙ ap (after g.rows) (read_on a s at g.line y.size z.0 h z.1)
+              ∙ after_after g.rows new (read_from (length s - (at + y.size)) (a + (at + y.size)) (g.line + feeds (take y.size (drop at s))) (drop (at + y.size) s));
         }
 
     -- what the code needs to go on: each turn takes a byte at least, and makes no more rows than it takes bytes
-    pub turn_falls : length s - (at + m) < length s - at
+    pub turn_falls : length s - (at + y.size) < length s - at
     turn_falls = omega (arith, turn_bounds)
 
     -- the entry stands in the rest of the text, as the code lends it on
-    pub turn_len : m ≤ length (take (length s - at) (drop at s))
+    pub turn_len : y.size ≤ length (take (length s - at) (drop at s))
     turn_len = rw (rest_of s at, length-drop) (omega (arith, turn_bounds))
 
-    pub turn_place : a + length s ≤ size_limit → Fits w64 (at + m)
+    pub turn_place : a + length s ≤ size_limit → Fits w64 (at + y.size)
     turn_place l = record { fits = omega (arith, turn_bounds) }
 
-    pub turn_count : a + length s ≤ size_limit → Fits w64 (n + q)
+    pub turn_count : a + length s ≤ size_limit → Fits w64 (n + y.rows)
     turn_count l = record { fits = omega (arith, turn_bounds, g.few) }
 
-  module _ (k p : ℕ) (e : r ≡ Entry.Refused k p) where
-    pub scan_denied : scanned a s ≡ denied k (a + at + p)
-    scan_denied = g.rest ∙ ap (after g.rows) (read_stop a s at g.line k p h (turn_refused k p e))
+  module _ (x : Refused) (e : r ≡ Err x) where
+    pub scan_denied : scanned a s ≡ denied x.number (a + at + x.place)
+    scan_denied = g.rest ∙ ap (after g.rows) (read_stop a s at g.line x.number x.place h (turn_refused x e))
 
-    pub turn_spot : a + length s ≤ size_limit → Fits w64 (a + at + p)
-    turn_spot l = record { fits = omega (arith, entry_place (drop at s) k p (turn_refused k p e), length-drop at s) }
+    pub turn_spot : a + length s ≤ size_limit → Fits w64 (a + at + x.place)
+    turn_spot l = record { fits = omega (arith, entry_place (drop at s) x.number x.place (turn_refused x e), length-drop at s) }
 
 -- the end is reached
 module _ (a : ℕ) (s u : List ℕ) (at n : ℕ) (t : List ℕ) (g : Reached a s u at n t) (h : length s ≤ at) where

@@ -1,4 +1,5 @@
 -- The strict profile's judgement of an entry, from what the code knows where it answers.
+use Rattle.std.specs.Prelude.{None, Option, Some}
 use Prim.Native.Nat.{ℕ, ◌+◌, ◌-◌}
 use mathlib.Core.Path.{◌≡◌, refl, sym, ◌∙◌, ap}
 use mathlib.Core.Bool.{Bool, true, false, cond, not, ◌||◌, ◌&&◌}
@@ -10,18 +11,15 @@ use Rattle.text.specs.Bytes.{bytes, is_blank, is_digit, is_small}
 use Rattle.text.specs.Run.{run_to}
 use Rattle.text.specs.Words.{starts_with, word_at}
 use Rattle.text.specs.Lines.{line_end_at}
-use Rattle.text.specs.declared.Read.{Read}
 use Rattle.ledger.specs.Strict.{missed, lost_line}
 use Rattle.ledger.specs.steps.Objections.{objection_of, flag_passes, lost_of, flag_of, entry_objection}
 use Rattle.ledger.specs.declared.strict.Objection.{Objection}
 use Rattle.entry.proofs.UndatedLaws.{option_word}
 
-pub missed_to : (r : Read) (e : ℕ) → r ≡ Read.To e → false ≡ missed r
-unfolding missed
+pub missed_to : (r : Option ℕ) (e : ℕ) → r ≡ Some e → false ≡ missed r
 missed_to r e h = rw h
 
-pub missed_miss : (r : Read) → r ≡ Read.Miss → true ≡ missed r
-unfolding missed
+pub missed_miss : (r : Option ℕ) → r ≡ None → true ≡ missed r
 missed_miss r h = rw h
 
 pub ruleset misses_laws = (missed_to, missed_miss)
@@ -33,7 +31,7 @@ flag_byte b c e = rw e
 pub ruleset flag_laws = flag_byte
 
 module _ (s : List ℕ) (b : ℕ) (c : Bool) (e : c ≡ is_blank b) where
-  pub stray_on : (x : Read) (m : Bool) → c ≡ true → x ≡ line_end_at s 0 → m ≡ missed x → m ≡ (is_blank b && missed (line_end_at s 0))
+  pub stray_on : (x : Option ℕ) (m : Bool) → c ≡ true → x ≡ line_end_at s 0 → m ≡ missed x → m ≡ (is_blank b && missed (line_end_at s 0))
   stray_on x m t h f = f ∙ ap missed h ∙ ap (λ z. z && missed (line_end_at s 0)) (sym t ∙ e)
 
   pub stray_off : c ≡ false → false ≡ (is_blank b && missed (line_end_at s 0))
@@ -44,10 +42,10 @@ pub ruleset stray_laws = (stray_on, stray_off)
 -- ---- a lost line: b is its first byte, c and d the code's first two tests
 
 word_missed : (w s : List ℕ) → missed (word_at w s 0) ≡ not (starts_with w s)
-unfolding missed word_at
+unfolding word_at
 word_missed w s = go (starts_with w s)
   where
-    go : (t : Bool) → missed (cond t (Read.To (0 + length w)) Read.Miss) ≡ not t
+    go : (t : Bool) → missed (cond t (Some (0 + length w)) None) ≡ not t
     go true = refl
     go false = refl
 
@@ -67,7 +65,7 @@ module _ (s : List ℕ) (b : ℕ) (eb : b ≡ get_or s 0 0) (c : Bool) (ec : c �
     unfolding lost_line
     lost_stray t = rw (first_test, nc, second_test, t)
 
-    module _ (nd : d ≡ false) (x : Read) (ex : x ≡ word_at option_word s 0) (m : Bool) (em : m ≡ missed x) where
+    module _ (nd : d ≡ false) (x : Option ℕ) (ex : x ≡ word_at option_word s 0) (m : Bool) (em : m ≡ missed x) where
       third_test : lost_line s ≡ not m
       unfolding lost_line bytes
       third_test = rw (first_test, nc, second_test, nd, em, ex, word_missed option_word s) (sym (not_not (starts_with option_word s)))
@@ -85,11 +83,11 @@ module _ (s : List ℕ) (b : ℕ) (eb : b ≡ get_or s 0 0) (c : Bool) (ec : c �
 pub ruleset lost_line_laws = (lost_digit, lost_stray, lost_none, lost_option)
 
 module _ (s : List ℕ) (c : Bool) (e : c ≡ lost_line s) where
-  pub lost_yes : c ≡ true → objection_of 16 0 ≡ lost_of s
+  pub lost_yes : c ≡ true → Some (objection_of 16 0) ≡ lost_of s
   unfolding lost_of
   lost_yes t = rw (← e, t)
 
-  pub lost_no : c ≡ false → objection_of 0 0 ≡ lost_of s
+  pub lost_no : c ≡ false → None ≡ lost_of s
   unfolding lost_of
   lost_no t = rw (← e, t)
 
@@ -101,11 +99,11 @@ module _ (s : List ℕ) (g : ℕ) (eg : g ≡ run_to is_blank s 10) (b : ℕ) (e
   flag_test : flag_passes (get_or s (run_to is_blank s 10) 0) ≡ c
   flag_test = ap (λ z. flag_passes (get_or s z 0)) (sym eg) ∙ ap flag_passes (sym eb) ∙ sym ec
 
-  pub flag_yes : c ≡ true → objection_of 0 0 ≡ flag_of s
+  pub flag_yes : c ≡ true → None ≡ flag_of s
   unfolding flag_of
   flag_yes t = rw (flag_test, t)
 
-  pub flag_no : c ≡ false → objection_of 17 g ≡ flag_of s
+  pub flag_no : c ≡ false → Some (objection_of 17 g) ≡ flag_of s
   unfolding flag_of
   flag_no t = rw (flag_test, t, eg)
 
@@ -113,7 +111,7 @@ pub ruleset flagged_laws = (flag_yes, flag_no)
 
 -- ---- an entry
 
-module _ (s : List ℕ) (n k : ℕ) (r : Objection) where
+module _ (s : List ℕ) (n k : ℕ) (r : Option Objection) where
   pub against_line : k ≡ 1 → r ≡ lost_of (take (n - 0) (drop 0 s)) → r ≡ entry_objection k n s
   unfolding entry_objection
   against_line h e = rw h e
@@ -122,7 +120,7 @@ module _ (s : List ℕ) (n k : ℕ) (r : Objection) where
   unfolding entry_objection
   against_flag h e = rw h e
 
-pub against_none : (s : List ℕ) (n k : ℕ) → (k ≡ 1 → ⊥) → (k ≡ 6 → ⊥) → objection_of 0 0 ≡ entry_objection k n s
+pub against_none : (s : List ℕ) (n k : ℕ) → (k ≡ 1 → ⊥) → (k ≡ 6 → ⊥) → None ≡ entry_objection k n s
 unfolding entry_objection
 against_none s n k h i = rw (ne_eqb k 1 h, ne_eqb k 6 i)
 

@@ -1,12 +1,11 @@
 -- M-110, the strict profile. Plain reading, and then a judgement of its rows: a ledger that plain reading accepts is
 -- refused if it has a lost line (16) or a transaction's flag other than `*` or `!` (17). The first such row decides,
 -- with its number, at its start.
-use Rattle.std.specs.Prelude.{ℕ, Bool, true, false, cond, not, ◌||◌, ◌&&◌, List, [], ◌∷◌, eqb, get_or}
+use Rattle.std.specs.Prelude.{ℕ, Bool, true, false, cond, not, ◌||◌, ◌&&◌, List, [], ◌∷◌, eqb, get_or, None, Option, Some, is_none}
 use Prim.Native.Char.{code}
 use Rattle.text.specs.Bytes.{bytes, is_blank, is_digit, between}
 use Rattle.text.specs.Words.{starts_with}
 use Rattle.text.specs.Lines.{line_end_at}
-use Rattle.text.specs.declared.Read.{Read}
 use Rattle.amount.specs.Kinds.{blank_kind, flag_kind}
 use Rattle.row.specs.declared.table.Row.{Row}
 use Rattle.ledger.specs.Plain.{Reading, accepted, denied, part, plain}
@@ -21,9 +20,8 @@ lost_line_number = 16
 abbrev pub flag_number : ℕ
 flag_number = 17
 
-unfoldable pub missed : Read → Bool
-missed (Read.To j) = false
-missed Read.Miss = true
+abbrev pub missed : Option ℕ → Bool
+missed = is_none
 
 -- a blank entry with the text u that starts with a digit, with blanks followed by something other than a comment or
 -- line end, or with `option`

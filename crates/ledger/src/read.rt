@@ -7,37 +7,19 @@ ghost use Rattle.ledger.specs.steps.Scan.{scan_answer};
 ghost use Rattle.row.specs.Row.{room};
 
 use crate::scan;
-use crate::scan::{Profile, Scan};
+use crate::scan::Profile;
 use row::lines;
 use row::table::WIDTH;
 use text::permitted::SIZE;
-
-#[derive(Clone, Copy)]
-pub enum Answer {
-    Rows(usize),
-    Refusal {
-        number: usize,
-        place: usize,
-        count: usize,
-    },
-}
-
-fn refusal(number: usize, place: usize, count: usize) -> Answer
-    ensures { result ≡ Answer.Refusal number place count }
-{
-    Answer::Refusal {
-        number,
-        place,
-        count,
-    }
-}
+use text::stop;
+use text::stop::Refused;
 
 // The first pass: so many rows, or a refusal.
-pub fn verdict(ledger: &[u8], profile: Profile) -> Scan
+pub fn verdict(ledger: &[u8], profile: Profile) -> Result<usize, Refused>
     ensures { result ≡ scan_answer (reading_by profile ledger.now) }
 {
     if SIZE < ledger.len() {
-        return Scan::Stopped(1, 0);
+        return Err(stop::refused_at(stop::TOO_LONG, 0));
     }
     let mut none = [0u8; 1];
     scan::part(ledger, 0, &mut none, profile)
@@ -45,34 +27,35 @@ pub fn verdict(ledger: &[u8], profile: Profile) -> Scan
 
 // The second pass, which writes: n rows, if there is room for them. It is lent the part of the table that they fill, so
 // that no other byte changes.
-fn written(ledger: &[u8], table: &mut [u8], n: usize, profile: Profile) -> Answer
-    requires { Scan.Whole n ≡ scan_answer (reading_by profile ledger.now) }
+fn written(ledger: &[u8], table: &mut [u8], n: usize, profile: Profile) -> Result<usize, Refused>
+    requires { Ok n ≡ scan_answer (reading_by profile ledger.now) }
     ensures answer { result ≡ answer (reading_by profile ledger.now) (room table.old) }
     ensures rows { table.new ≡ left (reading_by profile ledger.now) table.old }
 {
     if table.len() / WIDTH < n {
-        return refusal(9, 0, n);
+        return Err(Refused {
+            number: stop::TOO_SHORT,
+            place: 0,
+            count: n,
+        });
     }
     let end = n * WIDTH;
-    scan::entries(ledger, 0, &mut table[0..end], Profile::Plain);
+    let _ = scan::entries(ledger, 0, &mut table[0..end], Profile::Plain);
     lines::set_lines(ledger, table, n);
-    Answer::Rows(n)
+    Ok(n)
 }
 
 // A ledger's reading in a profile, into a row table. A refusal leaves every byte of the table.
-fn read_by(ledger: &[u8], table: &mut [u8], profile: Profile) -> Answer
+fn read_by(ledger: &[u8], table: &mut [u8], profile: Profile) -> Result<usize, Refused>
     ensures answer { result ≡ answer (reading_by profile ledger.now) (room table.old) }
     ensures rows { table.new ≡ left (reading_by profile ledger.now) table.old }
 {
-    let v = verdict(ledger, profile);
-    match v {
-        Scan::Stopped(number, place) => refusal(number, place, 0),
-        Scan::Whole(n) => written(ledger, table, n, profile),
-    }
+    let n = verdict(ledger, profile)?;
+    written(ledger, table, n, profile)
 }
 
 // Plain reading.
-pub fn read(ledger: &[u8], table: &mut [u8]) -> Answer
+pub fn read(ledger: &[u8], table: &mut [u8]) -> Result<usize, Refused>
     ensures answer { result ≡ answer (plain ledger.now) (room table.old) }
     ensures rows { table.new ≡ left (plain ledger.now) table.old }
 {
@@ -80,7 +63,7 @@ pub fn read(ledger: &[u8], table: &mut [u8]) -> Answer
 }
 
 // Strict reading (M-110): plain reading, and lost lines (16) and flags but `*` and `!` (17) are refused.
-pub fn read_strict(ledger: &[u8], table: &mut [u8]) -> Answer
+pub fn read_strict(ledger: &[u8], table: &mut [u8]) -> Result<usize, Refused>
     ensures answer { result ≡ answer (strict ledger.now) (room table.old) }
     ensures rows { table.new ≡ left (strict ledger.now) table.old }
 {

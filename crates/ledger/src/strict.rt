@@ -7,30 +7,16 @@ ghost use Rattle.ledger.specs.steps.Objections.{flag_passes, lost_of, flag_of, e
 
 use amount::kind;
 use text::run::Class;
-use text::{Read, bytes, line, run, word};
-
-// The refusals of the strict profile.
-pub const LOST_LINE: usize = 16;
-
-pub const FLAG: usize = 17;
+use text::{bytes, line, run, stop, word};
 
 // The bytes of a date.
 const DATE: usize = 10;
 
-// A refusal's number and its place from the entry's start; number 0 is none.
+// A refusal's number and its place from the entry's start.
 #[derive(Clone, Copy)]
 pub struct Objection {
     pub number: usize,
     pub place: usize,
-}
-
-fn misses(r: Read) -> bool
-    ensures { result ≡ missed r }
-{
-    match r {
-        Read::To(_) => false,
-        Read::Miss => true,
-    }
 }
 
 // Whether s, which starts with b, starts with blanks and no comment or line end behind them.
@@ -38,7 +24,7 @@ fn stray(s: &[u8], b: u8) -> bool
     ensures { result ≡ (is_blank b && missed (line_end_at s.now 0)) }
 {
     if bytes::is_blank(b) {
-        return misses(line::line_end(s, 0));
+        return line::line_end(s, 0).is_none();
     }
     false
 }
@@ -54,25 +40,19 @@ fn lost_line(s: &[u8]) -> bool
     if stray(s, b) {
         return true;
     }
-    if misses(word::word(s, 0, b"option")) {
-        return false;
-    }
-    true
+    word::word(s, 0, b"option").is_some()
 }
 
-fn lost(s: &[u8]) -> Objection
+fn lost(s: &[u8]) -> Option<Objection>
     ensures { result ≡ lost_of s.now }
 {
     if lost_line(s) {
-        return Objection {
-            number: LOST_LINE,
+        return Some(Objection {
+            number: stop::LOST_LINE,
             place: 0,
-        };
+        });
     }
-    Objection {
-        number: 0,
-        place: 0,
-    }
+    None
 }
 
 // `*`, `!`, or what `txn` starts with.
@@ -83,24 +63,21 @@ fn flag_passes(b: u8) -> bool
 }
 
 // The flag of a transaction at the front of s: behind its date and a gap.
-fn flagged(s: &[u8]) -> Objection
+fn flagged(s: &[u8]) -> Option<Objection>
     ensures { result ≡ flag_of s.now }
 {
     let g = run::run(s, DATE, Class::Blank);
     if flag_passes(bytes::peek(s, g)) {
-        return Objection {
-            number: 0,
-            place: 0,
-        };
+        return None;
     }
-    Objection {
-        number: FLAG,
+    Some(Objection {
+        number: stop::OTHER_FLAG,
         place: g,
-    }
+    })
 }
 
 // What the strict profile has against the entry of a kind and so many bytes at the front of s.
-pub fn against(s: &[u8], len: usize, kind: usize) -> Objection
+pub fn against(s: &[u8], len: usize, kind: usize) -> Option<Objection>
     requires { len ≤ length s.now }
     ensures { result ≡ entry_objection kind len s.now }
 {
@@ -110,8 +87,5 @@ pub fn against(s: &[u8], len: usize, kind: usize) -> Objection
     if kind == kind::TRANSACTION {
         return flagged(s);
     }
-    Objection {
-        number: 0,
-        place: 0,
-    }
+    None
 }

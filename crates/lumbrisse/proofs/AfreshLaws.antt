@@ -1,4 +1,6 @@
 -- What an accepted call wrote is what is written of the ledger.
+use Rattle.text.specs.Refusals.{refused_with}
+use Rattle.std.specs.Prelude.{Err, Ok}
 use Prim.Native.Nat.{ℕ, ◌*◌, ◌≤◌}
 use native.Mathlib.Omega.{arith}
 use mathlib.Core.Path.{◌≡◌, refl, sym, ap, subst}
@@ -13,10 +15,9 @@ use Rattle.row.specs.Row.{width}
 use Rattle.ledger.specs.Plain.{Reading, accepted, plain}
 use Rattle.layout.specs.Written.{written}
 use Rattle.layout.proofs.Rewrites.{m_103}
-use Rattle.rewrite.specs.declared.write.Answer.{Answer}
 use Rattle.rewrite.specs.Rewriting.{answered, output_left}
 use Rattle.lumbrisse.specs.declared.reply.Reply.{Reply}
-use Rattle.lumbrisse.specs.Numbers.{replied, rewrite_reply}
+use Rattle.lumbrisse.specs.Numbers.{replied, reply_of}
 use Rattle.lumbrisse.specs.Promises.{WritePromise}
 use Rattle.lumbrisse.specs.Afresh.{SaysTheSame, WritesTheSame}
 
@@ -25,12 +26,12 @@ nine_refused p c r e z = let y : r.number ≡ 9 = ap (λ (x : Reply). x.number) 
 
 module _ (s : List ℕ) (rs : List Row) (o w : List ℕ) (r : Reply) (o' w' : List ℕ) (a : plain s ≡ accepted rs) (P : WritePromise s o w r o' w') (z : r.number ≡ 0) where
   wrote : (r.count ≡ length (written s rs)) × (o' ≡ written s rs ++ drop (length (written s rs)) o)
-  unfolding answered output_left rewrite_reply
+  unfolding answered output_left reply_of
   wrote =
-      go (leb (length rs * width) (length w)) (leb (length (written s rs)) (length o)) (subst (λ (x : Reading). r ≡ rewrite_reply (answered s (length o) (length w) x)) a P.reply)
+      go (leb (length rs * width) (length w)) (leb (length (written s rs)) (length o)) (subst (λ (x : Reading). r ≡ reply_of (answered s (length o) (length w) x)) a P.reply)
       (subst (λ (x : Reading). o' ≡ output_left s (length w) o x) a P.output)
     where
-      go : (b c : Bool) → r ≡ rewrite_reply (cond b (cond c (Answer.Bytes (length (written s rs))) (Answer.Refusal 9 0 (length (written s rs)))) (Answer.Refusal 9 1 (length rs * width)))
+      go : (b c : Bool) → r ≡ reply_of (cond b (cond c (Ok (length (written s rs))) (Err (refused_with 9 0 (length (written s rs))))) (Err (refused_with 9 1 (length rs * width))))
           → o' ≡ cond b (cond c (written s rs ++ drop (length (written s rs)) o) o) o → (r.count ≡ length (written s rs)) × (o' ≡ written s rs ++ drop (length (written s rs)) o)
       go true true e f = (ap (λ (x : Reply). x.count) e, f)
       go true false e f = absurd (nine_refused 0 (length (written s rs)) r e z)

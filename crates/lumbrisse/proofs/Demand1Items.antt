@@ -1,7 +1,10 @@
 -- The first posting of each item of the totals starts within the ledger: it is a posting among plain reading's rows.
+use Rattle.text.specs.Refusals.{refused_with}
+use Rattle.text.specs.declared.stop.Refused.{Refused}
+use Rattle.std.specs.Prelude.{Err}
 use Prim.Native.Nat.{ℕ, ◌+◌, ◌≤◌}
 use native.Mathlib.Omega.{arith}
-use mathlib.Core.Path.{◌≡◌, subst}
+use mathlib.Core.Path.{◌≡◌, ap, subst}
 use mathlib.Core.Bool.{Bool, true, false, cond, ◌&&◌, not}
 use mathlib.Core.List.{List, [], ◌∷◌, map}
 use lib.Dec.{eqb, ltb}
@@ -18,7 +21,6 @@ use Rattle.walk.specs.Postings.{dated, stated, unstated, posting, postings_from,
 use Rattle.order.specs.Order.{Said, said, by}
 use Rattle.order.specs.Sorted.{insert, sorted}
 use Rattle.order.specs.Groups.{those, alike, heads, Item, item_of, listed, items, is_known, counted}
-use Rattle.order.specs.declared.runs.Counted.{Counted}
 use Rattle.totals.specs.Totals.{totals_of}
 
 -- ---- what holds of each of a list holds of each that is taken from it
@@ -97,16 +99,18 @@ rows_start s rs e =
     let k : Kept refusal_kind 0 1 s rs = subst (Accepts (Kept refusal_kind 0 1 s)) (plain_reads s rs e).2 (read_kept (length s) 0 1 s) in
     every_map (λ r h. omega (arith, h.place, h.inside)) rs k.lines
 
-large_place : {A : Type 0} (place : A → ℕ) (n k a : ℕ) (is : List (Item A)) → Every (λ i. place i.first ≤ n) is → counted place k is ≡ Counted.Large a → a ≤ n
+large_place : {A : Type 0} (place : A → ℕ) (n k a : ℕ) (is : List (Item A)) → Every (λ i. place i.first ≤ n) is → counted place k is ≡ Err (refused_with 6 a 0) → a ≤ n
 unfolding counted
 large_place place n k a [] h e = absurd (let z : ◌≡◌ {A = ℕ} 0 1 = cc in omega arith)
 large_place place n k a (i ∷ is) h e = go (is_known i.sum) e (large_place place n (k + 1) a is h.1)
   where
-    go : (b : Bool) → cond b (counted place (k + 1) is) (Counted.Large (place i.first)) ≡ Counted.Large a → (counted place (k + 1) is ≡ Counted.Large a → a ≤ n) → a ≤ n
+    go : (b : Bool) → cond b (counted place (k + 1) is) (Err (refused_with 6 (place i.first) 0)) ≡ Err (refused_with 6 a 0) → (counted place (k + 1) is ≡ Err (refused_with 6 a 0) → a ≤ n) → a ≤ n
     go true f ih = ih f
-    go false f ih = let x : place i.first ≡ a = cc in omega (arith, h.0)
+    go false f ih =
+        let refused : refused_with 6 (place i.first) 0 ≡ refused_with 6 a 0 = cc in
+        omega (arith, h.0, ap (λ (x : Refused). x.place) refused)
 
-pub large_within : (s : List ℕ) (y m : ℕ) (rs : List Row) (a : ℕ) → plain s ≡ accepted rs → counted (λ r. r.start) 0 (totals_of s y m rs) ≡ Counted.Large a → a ≤ length s
+pub large_within : (s : List ℕ) (y m : ℕ) (rs : List Row) (a : ℕ) → plain s ≡ accepted rs → counted (λ r. r.start) 0 (totals_of s y m rs) ≡ Err (refused_with 6 a 0) → a ≤ length s
 unfolding totals_of
 large_within s y m rs a e =
     large_place (λ r. r.start) (length s) 0 a (items (said s) (postings (dated y m) rs))

@@ -1,7 +1,9 @@
 -- Demand 1 of the calls for packets.
+use Rattle.text.specs.declared.stop.Refused.{Refused}
+use Rattle.std.specs.Prelude.{Err, Ok, None, Some}
 use Prim.Native.Nat.{ℕ, zero, suc, ◌+◌, min, ◌≤◌, ◌<◌}
 use native.Mathlib.Omega.{arith}
-use mathlib.Core.Path.{◌≡◌, refl, subst}
+use mathlib.Core.Path.{◌≡◌, refl, ◌∙◌, ap, subst}
 use mathlib.Core.Bool.{Bool, true, false, cond}
 use mathlib.Core.Logic.{◌⊎◌, inl, inr}
 use mathlib.Core.List.{List, [], ◌∷◌, ◌++◌}
@@ -10,21 +12,19 @@ use lib.Dec.{eqb, leb}
 use lib.ListN.{length, drop, length-drop}
 use Rattle.decimal.specs.Exact.{largest}
 use Rattle.text.specs.Every.{OneOf}
-use Rattle.text.specs.Refusals.{Refusal}
+use Rattle.text.specs.Refusals.{Refusal, refused_with}
 use Rattle.text.proofs.EveryLaws.{one_has}
 use Rattle.row.specs.declared.table.Row.{Row}
 use Rattle.row.specs.Row.{width, room}
-use Rattle.access.specs.declared.written.Written.{Written}
 use Rattle.access.specs.Spans.{good_span}
-use Rattle.bus.specs.declared.packet.Found.{Found}
-use Rattle.bus.specs.declared.packet.Step.{Step}
 use Rattle.bus.specs.Fields.{is_entry, whole, stated, tag_in, text_tag, row_field, text_place, longest}
 use Rattle.bus.specs.Writing.{row_of, text_of, fault, faults, packet, refusing, written, written_left}
-use Rattle.bus.specs.Reading.{field_fault, kind_in, is_row, text_found, found, handed, row_left, text_left}
-use Rattle.bus.proofs.FoundLaws.{sound, row_in_lem}
+use Rattle.bus.specs.declared.packet.Piece.{Piece}
+use Rattle.bus.specs.Reading.{Found, Step, field_fault, behind_field, kind_in, is_row, text_found, found, handed, row_left, text_left}
+use Rattle.bus.proofs.FoundLaws.{row_in_lem}
 use Rattle.lumbrisse.specs.declared.reply.Reply.{Reply}
 use Rattle.lumbrisse.specs.declared.reply.Handed.{Handed}
-use Rattle.lumbrisse.specs.Numbers.{written_reply, handed_of}
+use Rattle.lumbrisse.specs.Numbers.{reply_of, handed_of}
 use Rattle.lumbrisse.specs.Promises.{PacketPromise, StepPromise}
 use Rattle.lumbrisse.specs.Demand1.{refuses, HasBytes, NoSpace, Fills}
 use Rattle.lumbrisse.specs.Demand1Requests.{RowFound, Steps, at_entry, at_detail, at_end, no_buffer, bad_field}
@@ -78,15 +78,15 @@ module _ (s t : List ℕ) (k : ℕ) (b : List ℕ) (r : Reply) (u : List ℕ) wh
 
   pub packet_answers : PacketPromise s t k b r u
       → Fills (10 ∷ 18 ∷ []) s (refusing s k t ≡ 0) (λ n. refusing s k t ≡ n) (packet s k t) (min (length (packet s k t)) largest) b u r
-  unfolding written written_left written_reply
+  unfolding written written_left reply_of
   packet_answers P = go (eqb (refusing s k t) 0) refl P.reply P.bytes
     where
       go : (q : Bool) → eqb (refusing s k t) 0 ≡ q
-          → r ≡ written_reply (cond q (cond (leb m (length b)) (Written.Bytes m) (Written.Refusal 9 (min m largest))) (Written.Refusal (refusing s k t) 0))
+          → r ≡ reply_of (cond q (cond (leb m (length b)) (Ok m) (Err (refused_with 9 0 (min m largest)))) (Err (refused_with (refusing s k t) 0 0)))
           → u ≡ cond q (cond (leb m (length b)) (x ++ drop m b) b) b → Packet
       go true q e f =
           bytes_written writing_numbers (length s) (λ n. (refusing s k t ≡ 0) × HasBytes x b u n) (λ n. (refusing s k t ≡ 0) × NoSpace x b (min m largest) n) (λ n p. (refusing s k t ≡ n) × (p ≡ 0)) x b u (min m largest) r (λ h. (eqb-true (refusing s k t) 0 q, h)) (λ h. (eqb-true (refusing s k t) 0 q, h))
-          written_reply (Written.Bytes m) (Written.Refusal 9 (min m largest)) refl refl e f
+          reply_of (Ok m) (Err (refused_with 9 0 (min m largest))) refl refl e f
       go false q e f =
           refuses (refusing s k t) 0 e (refl, refl) (at_front writing_numbers (length s) (refusing s k t) (refusing_listed s k t (eqb-false (refusing s k t) 0 q))) f
 
@@ -95,46 +95,38 @@ module _ (s t : List ℕ) (k : ℕ) (b : List ℕ) (r : Reply) (u : List ℕ) wh
 abbrev reading_numbers : List ℕ
 reading_numbers = 19 ∷ 20 ∷ []
 
-field_listed : (w d : Bool) → Objects reading_numbers (field_fault w d)
-unfolding field_fault
-field_listed true true z = absurd (z refl)
-field_listed true false z = inr (inl refl)
-field_listed false d z = inl refl
-
 abbrev Within : List ℕ → Found → Type 0
-Within r (Found.Bad n before) = OneOf reading_numbers n × ((before ≤ length r) × (0 < length r))
-Within r Found.End = Unit {0}
-Within r Found.Entry = Unit {0}
-Within r (Found.Detail n) = Unit {0}
+Within r (Ok f) = Unit {0}
+Within r (Err x) = (x ≡ refused_with x.number x.place 0) × (OneOf reading_numbers x.number × ((x.place ≤ length r) × (0 < length r)))
+
+field_within : (r : List ℕ) (w d : Bool) (place : ℕ) → place ≤ length r → 0 < length r → (f : Found) → Within r f → Within r (behind_field (field_fault w d place) f)
+unfolding field_fault
+field_within r true true place h k f i = i
+field_within r true false place h k f i = (refl, (inr (inl refl), (h, k)))
+field_within r false d place h k f i = (refl, (inl refl, (h, k)))
 
 text_within : (r u : List ℕ) → row_field ≤ length r → Within r (text_found u)
 unfolding text_found
-text_within r u h = go (eqb (field_fault (whole u) (eqb (tag_in u) text_tag)) 0) refl
-  where
-    go : (b : Bool) → eqb (field_fault (whole u) (eqb (tag_in u) text_tag)) 0 ≡ b
-        → Within r (cond b (Found.Detail (stated u)) (Found.Bad (field_fault (whole u) (eqb (tag_in u) text_tag)) row_field))
-    go true e = tt
-    go false e =
-        (field_listed (whole u) (eqb (tag_in u) text_tag) (eqb-false (field_fault (whole u) (eqb (tag_in u) text_tag)) 0 e), (h, omega arith))
+text_within r u h = field_within r (whole u) (eqb (tag_in u) text_tag) row_field h (omega arith) (Ok (Some (Piece.Detail (stated u)))) tt
 
 found_within : (r : List ℕ) → Within r (found r)
-unfolding found
-found_within r = go (eqb (length r) 0) refl (eqb (field_fault (whole r) (is_row r)) 0) refl (is_entry (kind_in r))
+unfolding found field_fault
+found_within r = go (eqb (length r) 0) refl (whole r) refl (is_row r) refl (is_entry (kind_in r))
   where
-    go : (a : Bool) → eqb (length r) 0 ≡ a → (b : Bool) → eqb (field_fault (whole r) (is_row r)) 0 ≡ b → (c : Bool)
-        → Within r (cond a Found.End (cond b (cond c Found.Entry (text_found (drop row_field r))) (Found.Bad (field_fault (whole r) (is_row r)) 0)))
-    go true e b f c = tt
-    go false e true f true = tt
-    go false e true f false =
-        let h = sound (whole r) (is_row r) (eqb-true (field_fault (whole r) (is_row r)) 0 f) in
-        text_within r (drop row_field r) (row_in_lem r h.0 h.1)
-    go false e false f c =
-        (field_listed (whole r) (is_row r) (eqb-false (field_fault (whole r) (is_row r)) 0 f), (omega arith, omega (arith, eqb-false (length r) 0 e)))
+    go : (a : Bool) → eqb (length r) 0 ≡ a → (w : Bool) → whole r ≡ w → (d : Bool) → is_row r ≡ d → (c : Bool)
+        → Within r (cond a (Ok None) (behind_field (field_fault w d 0) (cond c (Ok (Some Piece.Entry)) (text_found (drop row_field r)))))
+    go true e w f d g c = tt
+    go false e true f true g true = tt
+    go false e true f true g false = text_within r (drop row_field r) (row_in_lem r f g)
+    go false e true f false g c = (refl, (inr (inl refl), (omega arith, omega (arith, eqb-false (length r) 0 e))))
+    go false e false f d g c = (refl, (inl refl, (omega arith, omega (arith, eqb-false (length r) 0 e))))
 
-bad_refusal : (p : List ℕ) (at n before : ℕ) → found (drop at p) ≡ Found.Bad n before → Refusal reading_numbers (length p) n (at + before)
-bad_refusal p at n before e =
-    let h : Within (drop at p) (Found.Bad n before) = subst (Within (drop at p)) e (found_within (drop at p)) in
-    record { listed = h.0; within = omega (arith, length-drop at p, h.1.0, h.1.1); front = λ o. absurd (omega (arith, one_has (λ m. 1 < m) reading_numbers n (omega arith) h.0)) }
+bad_within : (r : List ℕ) (x : Refused) → found r ≡ Err x → Within r (Err x)
+bad_within r x e = subst (Within r) e (found_within r)
+
+bad_refusal : (p : List ℕ) (at : ℕ) (x : Refused) → Within (drop at p) (Err x) → Refusal reading_numbers (length p) x.number (at + x.place)
+bad_refusal p at x h =
+    record { listed = h.1.0; within = omega (arith, length-drop at p, h.1.1.0, h.1.1.1); front = λ o. absurd (omega (arith, one_has (λ m. 1 < m) reading_numbers x.number (omega arith) h.1.0)) }
 
 module _ (p : List ℕ) (at : ℕ) (b c : List ℕ) (r : Handed) (b' c' : List ℕ) where
   -- what a call that came to a step told and left
@@ -147,17 +139,17 @@ module _ (p : List ℕ) (at : ℕ) (b c : List ℕ) (r : Handed) (b' c' : List �
   Stepped = Steps p at b c r b' c'
 
   -- either buffer is too short
-  short : (n : ℕ) → Came (Step.Refusal 9 0 n) → (RowFound (drop at p) × (n ≡ width) × (length b < n)) ⊎ ((found (drop at p) ≡ Found.Detail n) × (length c < n)) → Stepped
+  short : (n : ℕ) → Came (Err (refused_with 9 0 n)) → (RowFound (drop at p) × (n ≡ width) × (length b < n)) ⊎ ((found (drop at p) ≡ Ok (Some (Piece.Detail n))) × (length c < n)) → Stepped
   unfolding handed_of row_left text_left
   short n C h = no_buffer n C.answer h C.row C.text
 
-  entry_step : found (drop at p) ≡ Found.Entry → (l : Bool) → leb width (length b) ≡ l → Came (cond l (Step.Entry (at + row_field)) (Step.Refusal 9 0 width)) → Stepped
+  entry_step : found (drop at p) ≡ Ok (Some Piece.Entry) → (l : Bool) → leb width (length b) ≡ l → Came (cond l (Ok (Some (Piece.Entry, at + row_field))) (Err (refused_with 9 0 width))) → Stepped
   unfolding handed_of row_left text_left
   entry_step d true l C = at_entry d C.answer (leb-true width (length b) l) C.row C.text
   entry_step d false l C = short width C (inl (inl d, refl, leb-false width (length b) l))
 
-  detail_step : (n : ℕ) → found (drop at p) ≡ Found.Detail n → (l : Bool) → leb width (length b) ≡ l → (m : Bool) → leb n (length c) ≡ m
-      → Came (cond l (cond m (Step.Detail (at + text_place + n) n) (Step.Refusal 9 0 n)) (Step.Refusal 9 0 width)) → Stepped
+  detail_step : (n : ℕ) → found (drop at p) ≡ Ok (Some (Piece.Detail n)) → (l : Bool) → leb width (length b) ≡ l → (m : Bool) → leb n (length c) ≡ m
+      → Came (cond l (cond m (Ok (Some (Piece.Detail n, at + text_place + n))) (Err (refused_with 9 0 n))) (Err (refused_with 9 0 width))) → Stepped
   unfolding handed_of row_left text_left
   detail_step n d true l true m C = at_detail n d C.answer (leb-true width (length b) l) (leb-true n (length c) m) C.row C.text
   detail_step n d true l false m C = short n C (inr (d, leb-false n (length c) m))
@@ -168,7 +160,9 @@ module _ (p : List ℕ) (at : ℕ) (b c : List ℕ) (r : Handed) (b' c' : List �
   step_hands P = go (found (drop at p)) refl (record { answer = P.answer; row = P.row; text = P.text })
     where
       go : (x : Found) → found (drop at p) ≡ x → Came (handed at (length b) (length c) x) → Stepped
-      go Found.End d C = at_end d C.answer C.row C.text
-      go (Found.Bad n before) d C = bad_field n before d C.answer (bad_refusal p at n before d) C.row C.text
-      go Found.Entry d C = entry_step d (leb width (length b)) refl C
-      go (Found.Detail n) d C = detail_step n d (leb width (length b)) refl (leb n (length c)) refl C
+      go (Ok None) d C = at_end d C.answer C.row C.text
+      go (Err x) d C =
+          let h = bad_within (drop at p) x d in
+          bad_field x.number x.place (d ∙ ap (λ (x : Refused). Err x) h.0) C.answer (bad_refusal p at x h) C.row C.text
+      go (Ok (Some Piece.Entry)) d C = entry_step d (leb width (length b)) refl C
+      go (Ok (Some (Piece.Detail n))) d C = detail_step n d (leb width (length b)) refl (leb n (length c)) refl C

@@ -1,38 +1,39 @@
 -- Demand 1 of the calls that read: tables, and values, parts and bytes of a ledger.
+use Rattle.decimal.specs.declared.Decimal.{Decimal}
+use Rattle.text.specs.declared.stop.Refused.{Refused}
+use Rattle.std.specs.Prelude.{Err, Ok, Result, Bool, false, true}
 use Prim.Native.Nat.{ℕ, ◌+◌, ◌-◌, ◌*◌, ◌≤◌}
 use native.Mathlib.Omega.{arith}
-use mathlib.Core.Path.{◌≡◌, refl, sym, ◌∙◌, subst}
+use mathlib.Core.Path.{◌≡◌, refl, sym, ◌∙◌, ap, subst}
 use mathlib.Core.Bool.{Bool, true, false, cond, ◌||◌, ◌&&◌}
 use mathlib.Core.Logic.{inl, inr}
 use mathlib.Core.List.{List, [], ◌∷◌, ◌++◌}
 use borrow.Author.Tests.{leb-true, leb-false}
-use lib.Dec.{eqb, leb, ltb}
+use lib.Dec.{leb, ltb}
 use lib.ListN.{length, drop}
 use Rattle.decimal.specs.declared.Form.{Form}
-use Rattle.text.specs.Permitted.{size_limit}
-use Rattle.amount.specs.Kinds.{pushtag_kind}
+use Rattle.text.specs.Permitted.{clean, size_limit}
+use Rattle.text.specs.Answer.{Ans, To, Miss, Hard}
+use Rattle.amount.specs.Expression.{expression_in}
+use Rattle.decimal.specs.Faults.{Value}
 use Rattle.text.specs.Every.{OneOf}
-use Rattle.text.specs.Refusals.{Refusal}
+use Rattle.text.specs.Refusals.{Refusal, refused_with}
 use Rattle.row.specs.declared.table.Row.{Row}
 use Rattle.row.specs.Row.{rows_bytes, rows_in, width, room}
 use Rattle.ledger.specs.Plain.{Reading, accepted, denied}
 use Rattle.ledger.specs.Answers.{answer, left}
-use Rattle.ledger.specs.declared.read.Answer.{Answer}
 use Rattle.ledger.specs.declared.scan.Profile.{Profile}
 use Rattle.recovery.specs.Recovering.{recover_by, recovered_by}
 use Rattle.edit.specs.Edits.{is_block, is_new, grows, edit_rows, editing}
-use Rattle.access.specs.Single.{evaluated}
-use Rattle.access.specs.declared.single.Evaluated as single
+use Rattle.access.specs.Single.{value_answer, read_answer, evaluated}
 use Rattle.access.specs.Contents.{valid, unescaped, content_answer, content_left}
-use Rattle.access.specs.declared.written.Written.{Written}
-use Rattle.access.specs.Tables.{last_named, in_force}
-use Rattle.access.specs.declared.tables.Force.{Force}
+use Rattle.access.specs.Tables.{last_named, pushes, in_force}
 use Rattle.access.specs.Spans.{good_span}
 use Rattle.access.proofs.SpanLaws.{good_start, good_end}
 use Rattle.lumbrisse.specs.declared.reply.Reply.{Reply}
 use Rattle.lumbrisse.specs.declared.reply.Evaluated.{Evaluated}
 use Rattle.lumbrisse.specs.declared.reply.Part.{Part}
-use Rattle.lumbrisse.specs.Numbers.{replied, reply_of, written_reply, force_reply, evaluated_of, part_of}
+use Rattle.lumbrisse.specs.Numbers.{replied, refused_reply, reply_of, force_reply, evaluated_of, part_of}
 use Rattle.lumbrisse.specs.Promises.{TablePromise, ContentPromise, ExpressionPromise, TagPromise, SpanPromise}
 use Rattle.lumbrisse.specs.Demand1.{Answers, accepts, lacks, refuses, Never, ReadsRows, HasBytes, NoSpace, Fills, Evaluates, valued, unvalued, TagSaid, PartOf}
 
@@ -70,7 +71,7 @@ editing_refusal s t k a e y n p d =
 
 module _ (list s : List ℕ) (D : Reading) (refusal : (n p : ℕ) → D ≡ denied n p → Refusal list (length s) n p) (t : List ℕ) (r : Reply) (u : List ℕ) where
   table_rows : (rs : List Row) → D ≡ accepted rs → (b : Bool) → leb (length rs) (room t) ≡ b
-      → r ≡ reply_of (cond b (Answer.Rows (length rs)) (Answer.Refusal 9 0 (length rs)))
+      → r ≡ reply_of (cond b (Ok (length rs)) (Err (refused_with 9 0 (length rs))))
       → u ≡ cond b (rows_bytes rs ++ drop (length rs * width) t) t → ReadsRows list s D t u r
   unfolding reply_of
   table_rows rs d true l e f =
@@ -110,45 +111,73 @@ module _ (c t : List ℕ) (r : Reply) (u : List ℕ) where
   Content = Fills (10 ∷ []) c (valid c ≡ true) (λ n. valid c ≡ false) x m t u r
 
   pub content_answers : ContentPromise c t r u → Fills (10 ∷ []) c (valid c ≡ true) (λ n. valid c ≡ false) (unescaped c) (length (unescaped c)) t u r
-  unfolding content_answer content_left written_reply
+  unfolding content_answer content_left reply_of
   content_answers P = go (valid c) refl P.reply P.bytes
     where
-      go : (q : Bool) → valid c ≡ q → r ≡ written_reply (cond q (cond (leb m (length t)) (Written.Bytes m) (Written.Refusal 9 m)) (Written.Refusal 10 0))
+      go : (q : Bool) → valid c ≡ q → r ≡ reply_of (cond q (cond (leb m (length t)) (Ok m) (Err (refused_with 9 0 m))) (Err (refused_with 10 0 0)))
           → u ≡ cond q (cond (leb m (length t)) (x ++ drop m t) t) t → Content
       go true v e f =
           bytes_written (10 ∷ []) (length c) (λ n. (valid c ≡ true) × HasBytes x t u n) (λ n. (valid c ≡ true) × NoSpace x t m n) (λ n p. (valid c ≡ false) × (p ≡ 0)) x t u m r (λ h. (v, h)) (λ h. (v, h))
-          written_reply (Written.Bytes m) (Written.Refusal 9 m) refl refl e f
+          reply_of (Ok m) (Err (refused_with 9 0 m)) refl refl e f
       go false v e f = refuses 10 0 e (v, refl) (at_front (10 ∷ []) (length c) 10 (inl refl)) f
 
 -- ---- a tag, an expression, a span
 
-force_ten : (s t : List ℕ) (k : ℕ) (tag : List ℕ) (n : ℕ) → in_force s t k tag ≡ Force.Refusal n → n ≡ 10
+force_ten : (s t : List ℕ) (k : ℕ) (tag : List ℕ) (x : Refused) → in_force s t k tag ≡ Err x → x ≡ refused_with 10 0 0
 unfolding in_force
-force_ten s t k tag n e = go (leb k (room t)) (eqb (last_named s t tag (k - 1)) pushtag_kind) e
+force_ten s t k tag x e = go (leb k (room t)) (pushes (last_named s t tag (k - 1))) e
   where
-    go : (b c : Bool) → cond b (cond c Force.Yes Force.Not) (Force.Refusal 10) ≡ Force.Refusal n → n ≡ 10
-    go true true f = absurd (let z : ◌≡◌ {A = ℕ} 0 1 = cc in omega arith)
-    go true false f = absurd (let z : ◌≡◌ {A = ℕ} 0 1 = cc in omega arith)
+    go : (b c : Bool) → cond b (Ok c) (Err (refused_with 10 0 0)) ≡ Err x → x ≡ refused_with 10 0 0
+    go true c f = absurd (let z : ◌≡◌ {A = ℕ} 0 1 = cc in omega arith)
     go false c f = cc
 
-pub tag_answers : (s t : List ℕ) (k : ℕ) (tag : List ℕ) (r : Reply) → TagPromise s t k tag r → Answers (10 ∷ []) (length s) (TagSaid s t k tag) Never (λ n p. (in_force s t k tag ≡ Force.Refusal n) × (p ≡ 0)) (Unit {0}) r
+pub tag_answers : (s t : List ℕ) (k : ℕ) (tag : List ℕ) (r : Reply) → TagPromise s t k tag r → Answers (10 ∷ []) (length s) (TagSaid s t k tag) Never (λ n p. (in_force s t k tag ≡ Err (refused_with n 0 0)) × (p ≡ 0)) (Unit {0}) r
 unfolding force_reply
 tag_answers s t k tag r P = go (in_force s t k tag) refl P
   where
-    go : (x : Force) → in_force s t k tag ≡ x → r ≡ force_reply x → Answers (10 ∷ []) (length s) (TagSaid s t k tag) Never (λ n p. (in_force s t k tag ≡ Force.Refusal n) × (p ≡ 0)) (Unit {0}) r
-    go Force.Yes d e = accepts 1 e (inl (d, refl))
-    go Force.Not d e = accepts 0 e (inr (d, refl))
-    go (Force.Refusal n) d e = refuses n 0 e (d, refl) (at_front (10 ∷ []) (length s) n (inl (force_ten s t k tag n d))) tt
+    go : (x : Result Bool Refused) → in_force s t k tag ≡ x → r ≡ force_reply x → Answers (10 ∷ []) (length s) (TagSaid s t k tag) Never (λ n p. (in_force s t k tag ≡ Err (refused_with n 0 0)) × (p ≡ 0)) (Unit {0}) r
+    go (Ok true) d e = accepts 1 e (inl (d, refl))
+    go (Ok false) d e = accepts 0 e (inr (d, refl))
+    go (Err x) d e =
+        let ten = force_ten s t k tag x d in
+        refuses 10 0 (e ∙ ap (λ (x : Refused). refused_reply x) ten) (d ∙ ap (λ (x : Refused). Err x) ten, refl) (at_front (10 ∷ []) (length s) 10 (inl refl)) tt
+
+-- a refusal of an expression has no count
+abbrev Countless : Result (ℕ × Decimal) Refused → Type 0
+Countless (Ok v) = Unit {0}
+Countless (Err x) = x ≡ refused_with x.number x.place 0
+
+value_countless : (e : ℕ) (v : Value) → Countless (value_answer e v)
+unfolding value_answer
+value_countless e (Ok d) = tt
+value_countless e (Err n) = refl
+
+read_countless : (a : Ans Value) → Countless (read_answer a)
+unfolding read_answer
+read_countless (To e v) = value_countless e v
+read_countless Miss = refl
+read_countless (Hard k p) = refl
+
+evaluated_countless : (form : Form) (s : List ℕ) → Countless (evaluated form s)
+unfolding evaluated
+evaluated_countless form s = go (leb (length s) size_limit) (ltb (clean s) (length s))
+  where
+    go : (b c : Bool) → Countless (cond b (cond c (Err (refused_with 2 (clean s) 0)) (read_answer (expression_in form s 0))) (Err (refused_with 1 0 0)))
+    go true true = refl
+    go true false = read_countless (expression_in form s 0)
+    go false c = refl
 
 pub expression_evaluates : (form : Form) (s : List ℕ)
-    → ((n p : ℕ) → evaluated form s ≡ single.Evaluated.Refusal n p → Refusal (1 ∷ 2 ∷ 3 ∷ 11 ∷ 6 ∷ 7 ∷ 8 ∷ []) (length s) n p)
+    → ((n p : ℕ) → evaluated form s ≡ Err (refused_with n p 0) → Refusal (1 ∷ 2 ∷ 3 ∷ 11 ∷ 6 ∷ 7 ∷ 8 ∷ []) (length s) n p)
     → (r : Evaluated) → ExpressionPromise form s r → Evaluates form s r
 unfolding evaluated_of
 expression_evaluates form s refusal r P = go (evaluated form s) refl P
   where
-    go : (x : single.Evaluated) → evaluated form s ≡ x → r ≡ evaluated_of x → Evaluates form s r
-    go (single.Evaluated.Read e v) d f = valued e v f d
-    go (single.Evaluated.Refusal n p) d f = unvalued n p f d (refusal n p d)
+    go : (x : Result (ℕ × Decimal) Refused) → evaluated form s ≡ x → r ≡ evaluated_of x → Evaluates form s r
+    go (Ok (e, v)) d f = valued e v f d
+    go (Err x) d f =
+        let refused = d ∙ ap (λ (x : Refused). Err x) (subst Countless d (evaluated_countless form s)) in
+        unvalued x.number x.place f refused (refusal x.number x.place refused)
 
 part_within : (s : List ℕ) (a e : ℕ) (good : Bool) → good_span s a e ≡ good → (part_of s a e).start + (part_of s a e).length ≤ length s
 unfolding part_of

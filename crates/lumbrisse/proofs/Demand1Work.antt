@@ -1,28 +1,28 @@
 -- Demand 1 of the calls that are lent working space: totals, and a ledger written afresh.
-use Prim.Native.Nat.{ℕ, ◌*◌, ◌<◌}
+use Rattle.text.specs.declared.stop.Refused.{Refused}
+use Rattle.std.specs.Prelude.{Err, Ok, Result}
+use Prim.Native.Nat.{ℕ, ◌+◌, ◌*◌, ◌<◌}
 use native.Mathlib.Omega.{arith}
-use mathlib.Core.Path.{◌≡◌, refl, sym, ◌∙◌, ap}
+use mathlib.Core.Path.{◌≡◌, refl, sym, ◌∙◌, ap, subst}
 use mathlib.Core.Bool.{Bool, true, false, cond, ◌&&◌}
 use mathlib.Core.Logic.{◌⊎◌, inl, inr}
 use mathlib.Core.List.{List, [], ◌∷◌, ◌++◌, map}
 use borrow.Author.Tests.{leb-true, leb-false}
 use lib.Dec.{leb}
 use lib.ListN.{length, drop, length-map}
-use Rattle.text.specs.Refusals.{Refusal}
+use Rattle.text.specs.Refusals.{Refusal, refused_with}
 use Rattle.text.proofs.EveryLaws.{one_left}
 use Rattle.row.specs.declared.table.Row.{Row}
 use Rattle.row.specs.Work.{cleared}
 use Rattle.ledger.specs.Plain.{Reading, accepted, denied, plain}
 use Rattle.order.specs.Records.{record_width}
-use Rattle.order.specs.Groups.{Item, counted}
-use Rattle.order.specs.declared.runs.Counted.{Counted}
+use Rattle.order.specs.Groups.{Item, is_known, counted}
 use Rattle.totals.specs.Totals.{totals_of, item_row, need, is_month, Outcome, early, late, gives, settled, decided, answer_of, items_left, work_left}
 use Rattle.totals.proofs.JoinLaws.{counted_length}
 use Rattle.layout.specs.Written.{written}
 use Rattle.rewrite.specs.Rewriting as rewrite
-use Rattle.rewrite.specs.declared.write.Answer as rewritten
 use Rattle.lumbrisse.specs.declared.reply.Reply.{Reply}
-use Rattle.lumbrisse.specs.Numbers.{replied, totals_reply, rewrite_reply}
+use Rattle.lumbrisse.specs.Numbers.{replied, reply_of}
 use Rattle.lumbrisse.specs.Promises.{TotalsPromise, WritePromise}
 use Rattle.lumbrisse.specs.Demand1.{Answers, accepts, lacks, refuses, plain_numbers, HasBytes, NoSpace}
 use Rattle.lumbrisse.specs.Demand1Requests.{Early, left, zeros, NoWork, HasItems, NoRoomForItems, NoTotals, Totals, Writes}
@@ -52,6 +52,17 @@ module _ (s : List ℕ) (n p c : ℕ) (r : Reply) (e : r ≡ replied n p c) wher
 
 -- ---- totals
 
+-- a sum that is too large is refused with 6, and without a count
+counted_six : (place : Row → ℕ) (k : ℕ) (is : List (Item Row)) (x : Refused) → counted place k is ≡ Err x → x ≡ refused_with 6 x.place 0
+unfolding counted
+counted_six place k [] x e = absurd (let z : ◌≡◌ {A = ℕ} 0 1 = cc in omega arith)
+counted_six place k (i ∷ is) x e = go (is_known i.sum) (counted_six place (k + 1) is x) e
+  where
+    go : (b : Bool) → (counted place (k + 1) is ≡ Err x → x ≡ refused_with 6 x.place 0) → cond b (counted place (k + 1) is) (Err (refused_with 6 (place i.first) 0)) ≡ Err x
+        → x ≡ refused_with 6 x.place 0
+    go true h f = h f
+    go false h f = let y : refused_with 6 (place i.first) 0 ≡ x = cc in subst (λ (z : Refused). z ≡ refused_with 6 z.place 0) y refl
+
 module _ (s : List ℕ) (plain_refusal : (n p : ℕ) → plain s ≡ denied n p → Refusal plain_numbers (length s) n p)
     (y m : ℕ) (t w v : List ℕ) (r : Reply) (t' w' v' : List ℕ) where
   abbrev Answered : Type 0
@@ -61,13 +72,13 @@ module _ (s : List ℕ) (plain_refusal : (n p : ℕ) → plain s ≡ denied n p 
 
   -- what a call that came to an outcome told and left
   record Came (D : Outcome) : Type 0 where
-    reply : r ≡ totals_reply (answer_of D)
+    reply : r ≡ reply_of (answer_of D)
     items : t' ≡ items_left D t
     work : w' ≡ work_left D w
     spare : v' ≡ work_left D v
 
   before_use : (n p c : ℕ) → Came (early n p c) → (r ≡ replied n p c → Early s r) → (r ≡ replied n p c → t' ≡ t → Answered) → Totals s y m t w v r t' w' v'
-  unfolding totals_reply answer_of items_left work_left
+  unfolding reply_of answer_of items_left work_left
   before_use n p c C is told =
       record { answer = told C.reply C.items; work = left (is C.reply) C.work; spare = left (is C.reply) C.spare }
 
@@ -80,13 +91,19 @@ module _ (s : List ℕ) (plain_refusal : (n p : ℕ) → plain s ≡ denied n p 
     after_use n p c e f g h k told =
         record { answer = told; work = zeros (not_early s n p c r e rs d f g) rs d h; spare = zeros (not_early s n p c r e rs d f g) rs d k }
 
-    counts : (c : Counted) → counted (λ r. r.start) 0 is ≡ c → Came (settled (need y m rs) (length t) is c) → Totals s y m t w v r t' w' v'
-    unfolding settled totals_reply answer_of items_left work_left
-    counts (Counted.Large a) q C =
+    large : (a : ℕ) → counted (λ r. r.start) 0 is ≡ Err (refused_with 6 a 0) → Came (late (need y m rs) 6 a 0) → Totals s y m t w v r t' w' v'
+    unfolding reply_of answer_of items_left work_left
+    large a q C =
         after_use 6 a 0 C.reply (λ z. omega arith) (λ z. omega arith) C.work C.spare
         (inr (refuses 6 a C.reply (inr (inr (refl, rs, d, q)))
         (record { listed = inr (inr (inr (inr (inr (inl refl))))); within = large_within s y m rs a d q; front = λ z. absurd (omega arith) }) C.items))
-    counts (Counted.Items k) q C = go (leb (k * record_width) (length t)) refl C
+
+    counts : (c : Result ℕ Refused) → counted (λ r. r.start) 0 is ≡ c → Came (settled (need y m rs) (length t) is c) → Totals s y m t w v r t' w' v'
+    unfolding settled reply_of answer_of items_left work_left
+    counts (Err x) q C =
+        let six : x ≡ refused_with 6 x.place 0 = counted_six (λ (r : Row). r.start) 0 is x q in
+        large x.place (q ∙ ap (λ (x : Refused). Err x) six) (subst (λ (z : Refused). Came (late (need y m rs) z.number z.place z.count)) six C)
+    counts (Ok k) q C = go (leb (k * record_width) (length t)) refl C
       where
         k_is : k ≡ length is
         k_is = omega (arith, counted_length (λ (r : Row). r.start) 0 k is q)
@@ -155,22 +172,22 @@ module _ (s : List ℕ) (plain_refusal : (n p : ℕ) → plain s ≡ denied n p 
     abbrev Denies : ℕ → ℕ → Type 0
     Denies n p = plain s ≡ denied n p
 
-    output : r ≡ rewrite_reply (cond (leb size (length o)) (rewritten.Answer.Bytes size) (rewritten.Answer.Refusal 9 0 size))
+    output : r ≡ reply_of (cond (leb size (length o)) (Ok size) (Err (refused_with 9 0 size)))
         → o' ≡ cond (leb size (length o)) (written s rs ++ drop size o) o → Answers plain_numbers (length s) Gives Lacks Denies (o' ≡ o) r
-    unfolding rewrite_reply
+    unfolding reply_of
     output e f =
         bytes_written plain_numbers (length s) Gives Lacks Denies (written s rs) o o' size r (λ h. (rs, d, h)) (λ h. (rs, d, h))
-        rewrite_reply (rewritten.Answer.Bytes size) (rewritten.Answer.Refusal 9 0 size) refl refl e f
+        reply_of (Ok size) (Err (refused_with 9 0 size)) refl refl e f
 
-    used : (b : Bool) → r ≡ rewrite_reply (cond b (rewritten.Answer.Bytes size) (rewritten.Answer.Refusal 9 0 size)) → Early s r → ⊥
-    unfolding rewrite_reply
+    used : (b : Bool) → r ≡ reply_of (cond b (Ok size) (Err (refused_with 9 0 size))) → Early s r → ⊥
+    unfolding reply_of
     used true e = not_early s 0 0 size r e rs d (λ z. omega arith) (λ z. omega arith)
     used false e = not_early s 9 0 size r e rs d (λ z. omega arith) (λ z k. omega arith)
 
     rows_written : (b : Bool) → leb (rewrite.need rs) (length w) ≡ b
-        → r ≡ rewrite_reply (cond b (cond (leb size (length o)) (rewritten.Answer.Bytes size) (rewritten.Answer.Refusal 9 0 size)) (rewritten.Answer.Refusal 9 1 (rewrite.need rs)))
+        → r ≡ reply_of (cond b (cond (leb size (length o)) (Ok size) (Err (refused_with 9 0 size))) (Err (refused_with 9 1 (rewrite.need rs))))
         → o' ≡ cond b (cond (leb size (length o)) (written s rs ++ drop size o) o) o → w' ≡ cond b (cleared (rewrite.need rs) w) w → Writes s o w r o' w'
-    unfolding rewrite_reply
+    unfolding reply_of
     rows_written true l e f g = record { answer = inr (output e f); work = zeros (used (leb size (length o)) e) rs d g }
     rows_written false l e f g =
         record {
@@ -179,10 +196,10 @@ module _ (s : List ℕ) (plain_refusal : (n p : ℕ) → plain s ≡ denied n p 
         }
 
   pub write_answers : WritePromise s o w r o' w' → Writes s o w r o' w'
-  unfolding rewrite.answered rewrite.output_left rewrite.work_left rewrite_reply
+  unfolding rewrite.answered rewrite.output_left rewrite.work_left reply_of
   write_answers P = go (plain s) refl P.reply P.output P.work
     where
-      go : (x : Reading) → plain s ≡ x → r ≡ rewrite_reply (rewrite.answered s (length o) (length w) x) → o' ≡ rewrite.output_left s (length w) o x → w' ≡ rewrite.work_left w x
+      go : (x : Reading) → plain s ≡ x → r ≡ reply_of (rewrite.answered s (length o) (length w) x) → o' ≡ rewrite.output_left s (length w) o x → w' ≡ rewrite.work_left w x
           → Writes s o w r o' w'
       go (accepted rs) d e f g = rows_written rs d (leb (rewrite.need rs) (length w)) refl e f g
       go (denied n p) d e f g = record { answer = inr (refuses n p e d (plain_refusal n p d) f); work = left (denied_early s n p 0 r e d) g }

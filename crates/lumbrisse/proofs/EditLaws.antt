@@ -1,4 +1,6 @@
 -- An edit of a ledger whose rows are given is recovering reading of the new ledger.
+use Rattle.text.specs.Refusals.{refused_with}
+use Rattle.std.specs.Prelude.{Err, Ok}
 use Prim.Native.Nat.{ℕ}
 use native.Mathlib.Omega.{arith}
 use mathlib.Core.Path.{◌≡◌, sym, ◌∙◌, ap}
@@ -11,7 +13,6 @@ use Rattle.row.specs.declared.table.Row.{Row}
 use Rattle.row.specs.Row.{rows_in, room}
 use Rattle.ledger.specs.Plain.{Reading, accepted, denied}
 use Rattle.ledger.specs.Answers.{answer, left}
-use Rattle.ledger.specs.declared.read.Answer.{Answer}
 use Rattle.recovery.specs.Recovering.{recovered_by, recover_from, recovered}
 use Rattle.edit.specs.Edits.{is_block, is_new, grows, edit_rows, editing}
 use Rattle.edit.proofs.AfreshLaws.{afresh_call, some_rows, is_edit, rows_of}
@@ -45,13 +46,13 @@ editing_numbered s t k a e y =
     go false false rs = λ z. omega arith
 
 answered : (x : Reading) (t : List ℕ) (r : Reply) (u : List ℕ) → Numbered x → TablePromise x t r u → r.number ≡ 0
-    → answer x (room t) ≡ Answer.Rows r.count
+    → answer x (room t) ≡ Ok r.count
 unfolding answer reply_of
 answered (accepted rs) t r u n p z = go (leb (length rs) (room t)) p.reply
   where
-    go : (b : Bool) → r ≡ reply_of (cond b (Answer.Rows (length rs)) (Answer.Refusal 9 0 (length rs)))
-        → cond b (Answer.Rows (length rs)) (Answer.Refusal 9 0 (length rs)) ≡ Answer.Rows r.count
-    go true e = ap Answer.Rows (sym (ap (λ (x : Reply). x.count) e))
+    go : (b : Bool) → r ≡ reply_of (cond b (Ok (length rs)) (Err (refused_with 9 0 (length rs))))
+        → cond b (Ok (length rs)) (Err (refused_with 9 0 (length rs))) ≡ Ok r.count
+    go true e = ap Ok (sym (ap (λ (x : Reply). x.count) e))
     go false e = absurd (let y : r.number ≡ 9 = ap (λ (x : Reply). x.number) e in omega arith)
 answered (denied k q) t r u n p z = absurd (n (sym (ap (λ (x : Reply). x.number) p.reply) ∙ z))
 

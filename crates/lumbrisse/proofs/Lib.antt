@@ -1,4 +1,4 @@
-pub mod NumberLaws
+pub mod PartLaws
 pub mod Unique
 pub mod PacketLaws
 pub mod EditLaws

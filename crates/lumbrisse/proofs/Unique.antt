@@ -21,7 +21,7 @@ use Rattle.lumbrisse.specs.declared.reply.Reply.{Reply}
 use Rattle.lumbrisse.specs.declared.reply.Evaluated.{Evaluated}
 use Rattle.lumbrisse.specs.declared.reply.Handed.{Handed}
 use Rattle.lumbrisse.specs.declared.reply.Part.{Part}
-use Rattle.lumbrisse.specs.Numbers.{reply_of, totals_reply, rewrite_reply, written_reply, force_reply, evaluated_of, part_of, handed_of}
+use Rattle.lumbrisse.specs.Numbers.{reply_of, force_reply, evaluated_of, part_of, handed_of}
 use Rattle.lumbrisse.specs.Promises.{TablePromise, TotalsPromise, WritePromise, ContentPromise, ExpressionPromise, TagPromise, SpanPromise, PacketPromise, StepPromise}
 
 -- both are what is defined
@@ -66,16 +66,16 @@ write_unique a b = (same_defined a.reply b.reply, (same_defined a.output b.outpu
 
 pub write_total : (s o w : List ℕ) → (r : Reply) × ((o' : List ℕ) × ((w' : List ℕ) × WritePromise s o w r o' w'))
 write_total s o w =
-    (rewrite_reply (rewrite.answered s (length o) (length w) (plain s)), (rewrite.output_left s (length w) o (plain s), (rewrite.work_left w (plain s), record { reply = refl; output = refl; work = refl })))
+    (reply_of (rewrite.answered s (length o) (length w) (plain s)), (rewrite.output_left s (length w) o (plain s), (rewrite.work_left w (plain s), record { reply = refl; output = refl; work = refl })))
 
 pub totals_total : (s : List ℕ) (y m : ℕ) (t w u : List ℕ)
     → (r : Reply) × ((t' : List ℕ) × ((w' : List ℕ) × ((u' : List ℕ) × TotalsPromise s y m t w u r t' w' u')))
 totals_total s y m t w u =
     let d = decided s y m (length t) (length w) (length u) (plain s) in
-    (totals_reply (answer_of d), (items_left d t, (work_left d w, (work_left d u, record { reply = refl; items = refl; work = refl; spare = refl }))))
+    (reply_of (answer_of d), (items_left d t, (work_left d w, (work_left d u, record { reply = refl; items = refl; work = refl; spare = refl }))))
 
 pub content_total : (c t : List ℕ) → (r : Reply) × ((u : List ℕ) × ContentPromise c t r u)
-content_total c t = (written_reply (content_answer c (length t)), (content_left c t, record { reply = refl; bytes = refl }))
+content_total c t = (reply_of (content_answer c (length t)), (content_left c t, record { reply = refl; bytes = refl }))
 
 pub expression_total : (form : Form) (s : List ℕ) → (r : Evaluated) × ExpressionPromise form s r
 expression_total form s = (evaluated_of (evaluated form s), refl)
@@ -93,7 +93,7 @@ pub span_total : (s : List ℕ) (a e : ℕ) → (r : Part) × SpanPromise s a e 
 span_total s a e = (part_of s a e, record { part = refl; text = part_text s a e (good_span s a e) refl })
 
 pub packet_total : (s t : List ℕ) (k : ℕ) (b : List ℕ) → (r : Reply) × ((u : List ℕ) × PacketPromise s t k b r u)
-packet_total s t k b = (written_reply (written s k t (length b)), (written_left s k t b, record { reply = refl; bytes = refl }))
+packet_total s t k b = (reply_of (written s k t (length b)), (written_left s k t b, record { reply = refl; bytes = refl }))
 
 pub step_total : (p : List ℕ) (at : ℕ) (b c : List ℕ) → (r : Handed) × ((u : List ℕ) × ((v : List ℕ) × StepPromise p at b c r u v))
 step_total p at b c =

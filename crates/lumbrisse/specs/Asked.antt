@@ -1,11 +1,10 @@
 -- What the lists of documents 01 and 02 ask of a text, and what a text answers, so that questions to several calls and
 -- rules stand in one list.
-use Rattle.std.specs.Prelude.{ℕ, ◌-◌, List, ◌∷◌, length}
+use Rattle.std.specs.Prelude.{ℕ, ◌-◌, List, ◌∷◌, length, Option}
 use Rattle.decimal.specs.declared.Form.{Form}
 use Rattle.decimal.specs.Exact.{word_limit}
 use Rattle.text.specs.Currencies
 use Rattle.text.specs.Strings
-use Rattle.text.specs.declared.Read.{Read}
 use Rattle.row.specs.declared.table.Row as declared
 use Rattle.ledger.specs.Plain
 use Rattle.ledger.specs.Opened.{opened}
@@ -13,7 +12,7 @@ use Rattle.access.specs.Contents
 use Rattle.access.specs.Single
 use Rattle.lumbrisse.specs.declared.reply.Evaluated.{Evaluated}
 use Rattle.lumbrisse.specs.declared.reply.Reply.{Reply}
-use Rattle.lumbrisse.specs.Numbers.{evaluated_of, written_reply}
+use Rattle.lumbrisse.specs.Numbers.{evaluated_of, reply_of}
 
 pub data Asked : Type 0 where
   -- the call for one expression, in a form
@@ -31,15 +30,15 @@ pub data Told : Type 0 where
   evaluated : Evaluated → Told
   reading : Plain.Reading → Told
   reply : Reply → Told
-  token : Read → Told
+  token : Option ℕ → Told
 
 -- what the definitions of the promises answer
 unfoldable pub answered : Asked → Told
 unfolding opened Contents.ends_at Contents.valid Contents.unescaped Contents.escaped_byte Contents.content_answer
-    Single.value_answer Single.read_answer Single.evaluated evaluated_of written_reply
+    Single.value_answer Single.read_answer Single.evaluated evaluated_of reply_of
 answered (expression form s) = evaluated (evaluated_of (Single.evaluated form s))
 answered (ledger s) = reading (Plain.plain s)
-answered (content s) = reply (written_reply (Contents.content_answer s (length s)))
+answered (content s) = reply (reply_of (Contents.content_answer s (length s)))
 answered (currency s) = token (Currencies.currency_at s 0)
 answered (string s) = token (Strings.string_at s 0)
 

@@ -10,20 +10,19 @@
 --               is within the text (and 0 for number 1), and no count
 -- An expression and a tag never lack anything, and a span is never refused. For every input one answer meets the
 -- promise, and no second one does (`proofs/Unique.antt`).
-use Rattle.std.specs.Prelude.{ℕ, ◌+◌, ◌*◌, ◌≤◌, ◌<◌, ◌≡◌, true, false, ◌⊎◌, List, [], ◌∷◌, ◌++◌, length, take, drop}
+use Rattle.text.specs.declared.stop.Refused.{Refused}
+use Rattle.std.specs.Prelude.{ℕ, ◌+◌, ◌*◌, ◌≤◌, ◌<◌, ◌≡◌, true, false, ◌⊎◌, List, [], ◌∷◌, ◌++◌, length, take, drop, Result, Err, Ok}
 use Rattle.decimal.specs.Exact.{whole_of, twos_of}
 use Rattle.decimal.specs.declared.Decimal.{Decimal}
 use Rattle.decimal.specs.declared.Form.{Form}
-use Rattle.text.specs.Refusals.{Refusal}
+use Rattle.text.specs.Refusals.{Refusal, refused_with}
 use Rattle.row.specs.declared.table.Row.{Row}
 use Rattle.row.specs.Row.{rows_bytes, width, room}
 use Rattle.ledger.specs.Plain.{Reading, accepted, denied, plain}
 use Rattle.recovery.specs.Recovering.{recovered}
 use Rattle.access.specs.Single.{evaluated}
-use Rattle.access.specs.declared.single.Evaluated as single
 use Rattle.access.specs.Contents.{valid, unescaped}
 use Rattle.access.specs.Tables.{in_force}
-use Rattle.access.specs.declared.tables.Force.{Force}
 use Rattle.access.specs.Spans.{span_text}
 use Rattle.lumbrisse.specs.declared.reply.Reply.{Reply}
 use Rattle.lumbrisse.specs.declared.reply.Evaluated.{Evaluated}
@@ -93,14 +92,14 @@ Fills list s Good Bad x returned t u r =
 -- one expression in a form: the value that is defined, and where it stops
 pub data Evaluates (form : Form) (s : List ℕ) (r : Evaluated) : Type 0 where
   valued : (e : ℕ) (v : Decimal) → r ≡ record { number = 0; place = e; bits = twos_of (whole_of v) }
-      → evaluated form s ≡ single.Evaluated.Read e v → Evaluates form s r
+      → evaluated form s ≡ Ok (e, v) → Evaluates form s r
   unvalued : (n p : ℕ) → r ≡ record { number = n; place = p; bits = 0 }
-      → evaluated form s ≡ single.Evaluated.Refusal n p → Refusal (1 ∷ 2 ∷ 3 ∷ 11 ∷ 6 ∷ 7 ∷ 8 ∷ []) (length s) n p
+      → evaluated form s ≡ Err (refused_with n p 0) → Refusal (1 ∷ 2 ∷ 3 ∷ 11 ∷ 6 ∷ 7 ∷ 8 ∷ []) (length s) n p
       → Evaluates form s r
 
 -- a tag: 1 where it is in force, 0 where it is not
 abbrev pub TagSaid : List ℕ → List ℕ → ℕ → List ℕ → ℕ → Type 0
-TagSaid s t k tag n = ((in_force s t k tag ≡ Force.Yes) × (n ≡ 1)) ⊎ ((in_force s t k tag ≡ Force.Not) × (n ≡ 0))
+TagSaid s t k tag n = ((in_force s t k tag ≡ Ok true) × (n ≡ 1)) ⊎ ((in_force s t k tag ≡ Ok false) × (n ≡ 0))
 
 -- a span is never refused: a part of the ledger, which is the span's text, and empty, at 0, for a bad span
 pub record PartOf (s : List ℕ) (a e : ℕ) (r : Part) : Type 0 where
@@ -120,5 +119,5 @@ pub record Demand1 : Type 0 where
       → Fills (10 ∷ []) c (valid c ≡ true) (λ n. valid c ≡ false) (unescaped c) (length (unescaped c)) t u r
   pub tag_in_force : (s t : List ℕ) (k : ℕ) (tag : List ℕ) (r : Reply) → TagPromise s t k tag r
       → Answers (10 ∷ []) (length s) (TagSaid s t k tag) Never
-      (λ n p. (in_force s t k tag ≡ Force.Refusal n) × (p ≡ 0)) (Unit {0}) r
+      (λ n p. (in_force s t k tag ≡ Err (refused_with n 0 0)) × (p ≡ 0)) (Unit {0}) r
   pub span : (s : List ℕ) (a e : ℕ) (r : Part) → SpanPromise s a e r → PartOf s a e r

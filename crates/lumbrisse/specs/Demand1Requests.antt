@@ -2,9 +2,9 @@
 --
 -- Working space, lent to totals and to writing afresh, is no answer: where it is short that is 9 at place 1. A refusal
 -- that is judged before it is used leaves it as it was; else its front, as long as the need, is zeros.
-use Rattle.std.specs.Prelude.{ℕ, ◌+◌, ◌*◌, min, ◌≤◌, ◌<◌, ◌≡◌, false, ◌⊎◌, List, [], ◌∷◌, ◌++◌, map, length, drop}
+use Rattle.std.specs.Prelude.{ℕ, ◌+◌, ◌*◌, min, ◌≤◌, ◌<◌, ◌≡◌, false, ◌⊎◌, List, [], ◌∷◌, ◌++◌, map, length, drop, None, Some, Err, Ok}
 use Rattle.decimal.specs.Exact.{largest}
-use Rattle.text.specs.Refusals.{Refusal}
+use Rattle.text.specs.Refusals.{Refusal, refused_with}
 use Rattle.row.specs.declared.table.Row.{Row}
 use Rattle.row.specs.Row.{width}
 use Rattle.row.specs.Work.{cleared}
@@ -14,14 +14,13 @@ use Rattle.recovery.specs.Recovering.{recovered_strictly}
 use Rattle.edit.specs.Edits.{editing}
 use Rattle.order.specs.Records.{record_width, records_bytes}
 use Rattle.order.specs.Groups.{counted}
-use Rattle.order.specs.declared.runs.Counted.{Counted}
 use Rattle.totals.specs.Totals.{totals_of, item_row, is_month, need}
 use Rattle.layout.specs.Written.{written}
 use Rattle.rewrite.specs.Rewriting as rewrite
 use Rattle.bus.specs.Fields.{entry_tag, detail_tag, row_field, text_place}
 use Rattle.bus.specs.Writing.{packet, refusing}
+use Rattle.bus.specs.declared.packet.Piece.{Piece}
 use Rattle.bus.specs.Reading.{found, row_in, text_in}
-use Rattle.bus.specs.declared.packet.Found.{Found}
 use Rattle.lumbrisse.specs.declared.reply.Reply.{Reply}
 use Rattle.lumbrisse.specs.declared.reply.Handed.{Handed}
 use Rattle.lumbrisse.specs.Numbers.{replied, handed_by}
@@ -70,7 +69,7 @@ NoTotals s y m n p =
     (plain s ≡ denied n p)
     ⊎ (((n ≡ 15) × (p ≡ 0) × (is_month m ≡ false))
     ⊎ ((n ≡ 6) × (rs : List Row) × (plain s ≡ accepted rs)
-    × (counted (λ r. r.start) 0 (totals_of s y m rs) ≡ Counted.Large p)))
+    × (counted (λ r. r.start) 0 (totals_of s y m rs) ≡ Err (refused_with 6 p 0))))
 
 pub record Totals (s : List ℕ) (y m : ℕ) (t w v : List ℕ) (r : Reply) (t' w' v' : List ℕ) : Type 0 where
   pub answer : NoWork s (need y m) (λ n. (length w < n) ⊎ (length v < n)) (t' ≡ t) r
@@ -90,20 +89,20 @@ pub record Writes (s o w : List ℕ) (r : Reply) (o' w' : List ℕ) : Type 0 whe
 
 -- a row stands there, an entry's or a detail's
 abbrev pub RowFound : List ℕ → Type 0
-RowFound r = (found r ≡ Found.Entry) ⊎ ((n : ℕ) × (found r ≡ Found.Detail n))
+RowFound r = (found r ≡ Ok (Some Piece.Entry)) ⊎ ((n : ℕ) × (found r ≡ Ok (Some (Piece.Detail n))))
 
 -- one step of a reader at a place of the packet p, with a buffer b for the row and c for the text
 pub data Steps (p : List ℕ) (at : ℕ) (b c : List ℕ) (r : Handed) (b' c' : List ℕ) : Type 0 where
-  at_entry : found (drop at p) ≡ Found.Entry → r ≡ handed_by 0 (at + row_field) entry_tag 0 → width ≤ length b
+  at_entry : found (drop at p) ≡ Ok (Some Piece.Entry) → r ≡ handed_by 0 (at + row_field) entry_tag 0 → width ≤ length b
       → b' ≡ row_in (drop at p) ++ drop width b → c' ≡ c → Steps p at b c r b' c'
-  at_detail : (n : ℕ) → found (drop at p) ≡ Found.Detail n → r ≡ handed_by 0 (at + text_place + n) detail_tag n
+  at_detail : (n : ℕ) → found (drop at p) ≡ Ok (Some (Piece.Detail n)) → r ≡ handed_by 0 (at + text_place + n) detail_tag n
       → width ≤ length b → n ≤ length c
       → b' ≡ row_in (drop at p) ++ drop width b → c' ≡ text_in n (drop at p) ++ drop n c → Steps p at b c r b' c'
-  at_end : found (drop at p) ≡ Found.End → r ≡ handed_by 0 at 0 0 → b' ≡ b → c' ≡ c → Steps p at b c r b' c'
+  at_end : found (drop at p) ≡ Ok None → r ≡ handed_by 0 at 0 0 → b' ≡ b → c' ≡ c → Steps p at b c r b' c'
   no_buffer : (n : ℕ) → r ≡ handed_by 9 0 0 n
-      → (RowFound (drop at p) × (n ≡ width) × (length b < n)) ⊎ ((found (drop at p) ≡ Found.Detail n) × (length c < n))
+      → (RowFound (drop at p) × (n ≡ width) × (length b < n)) ⊎ ((found (drop at p) ≡ Ok (Some (Piece.Detail n))) × (length c < n))
       → b' ≡ b → c' ≡ c → Steps p at b c r b' c'
-  bad_field : (n before : ℕ) → found (drop at p) ≡ Found.Bad n before → r ≡ handed_by n (at + before) 0 0
+  bad_field : (n before : ℕ) → found (drop at p) ≡ Err (refused_with n before 0) → r ≡ handed_by n (at + before) 0 0
       → Refusal (19 ∷ 20 ∷ []) (length p) n (at + before)
       → b' ≡ b → c' ≡ c → Steps p at b c r b' c'
 

@@ -1,7 +1,6 @@
 -- Document 01, "Easy to get wrong": one list under one statement, by computation.
-use Rattle.std.specs.Prelude.{◌≡◌, refl, List, [], ◌∷◌, map}
+use Rattle.std.specs.Prelude.{◌≡◌, refl, List, [], ◌∷◌, map, None, Some}
 use Rattle.text.specs.Bytes.{bytes}
-use Rattle.text.specs.declared.Read.{Read}
 use Rattle.ledger.specs.Plain.{accepted, denied}
 use Rattle.lumbrisse.specs.Numbers.{replied}
 use Rattle.lumbrisse.specs.Asked.{Asked, Told, ledger, content, string, reading, reply, token, answered, row, with_cost}
@@ -13,9 +12,9 @@ wrongs =
     (ledger (bytes "2024-01-01 *\n A:B 1 X {2024-05-01,3/1.5 EUR}\n"), reading (accepted (with_cost 45 (row 28 22 44 2 20240501 0 0 ∷ row 26 34 39 2 40 43 2000000 ∷ []))))
     ∷ (ledger (bytes "includes\n"), reading (denied 4 0))
     ∷ (ledger (bytes "optional\n"), reading (accepted (row 1 0 9 1 0 0 0 ∷ [])))
-    ∷ (string (bytes "\"\\\"a\""), token Read.Miss)
-    ∷ (string (bytes "\"a\\\"\\\\\""), token Read.Miss)
-    ∷ (string (bytes "\"a\\\"b\\\\\""), token (Read.To 8))
+    ∷ (string (bytes "\"\\\"a\""), token None)
+    ∷ (string (bytes "\"a\\\"\\\\\""), token None)
+    ∷ (string (bytes "\"a\\\"b\\\\\""), token (Some 8))
     ∷ (content (bytes "\\\"a"), reply (replied 10 0 0))
     ∷ (content (bytes "a\\\"\\\\"), reply (replied 10 0 0))
     ∷ (content (bytes "a\\\"b\\\\"), reply (replied 0 0 4))

@@ -1,10 +1,9 @@
 -- Document 01, "Both sides of each edge": one list under one statement, by computation. Expressions are in the exact
 -- form.
-use Rattle.std.specs.Prelude.{ℕ, ◌≡◌, refl, List, [], ◌∷◌, ◌++◌, map, replicate}
+use Rattle.std.specs.Prelude.{ℕ, ◌≡◌, refl, List, [], ◌∷◌, ◌++◌, map, replicate, None, Some}
 use Prim.Native.Char.{code}
 use Rattle.decimal.specs.declared.Form.TheVariants.{Exact}
 use Rattle.text.specs.Bytes.{bytes}
-use Rattle.text.specs.declared.Read.{Read}
 use Rattle.ledger.specs.Plain.{accepted, denied}
 use Rattle.lumbrisse.specs.Asked.{Asked, Told, ledger, currency, reading, token, answered, stops, stops_below, refuses, row, with_cost}
 
@@ -37,8 +36,8 @@ edges =
     ∷ refused (bytes "0.0000001") 7 0
     ∷ refused (bytes "999999999.999999*1.000001") 6 0
     ∷ refused [] 11 0
-    ∷ (currency (bytes "A"), token (Read.To 1))
-    ∷ (currency (bytes "A-"), token Read.Miss)
+    ∷ (currency (bytes "A"), token (Some 1))
+    ∷ (currency (bytes "A-"), token None)
     ∷ (ledger (bytes "2024-01-01 commodity A\n"), reading (accepted (row 12 0 23 1 20240101 1 0 ∷ row 31 21 22 1 0 0 0 ∷ [])))
     ∷ (ledger (bytes "2024-01-01 commodity A-\n"), reading (denied 4 0))
     ∷ is (groups 32) 65 2000000

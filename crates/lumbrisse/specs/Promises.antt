@@ -16,7 +16,7 @@ use Rattle.lumbrisse.specs.declared.reply.Reply.{Reply}
 use Rattle.lumbrisse.specs.declared.reply.Evaluated.{Evaluated}
 use Rattle.lumbrisse.specs.declared.reply.Handed.{Handed}
 use Rattle.lumbrisse.specs.declared.reply.Part.{Part}
-use Rattle.lumbrisse.specs.Numbers.{reply_of, totals_reply, rewrite_reply, written_reply, force_reply, evaluated_of, part_of, handed_of}
+use Rattle.lumbrisse.specs.Numbers.{reply_of, force_reply, evaluated_of, part_of, handed_of}
 
 -- a reading of a ledger into a table t: plain or recovering, in either profile, or that of an edited ledger
 pub record TablePromise (reading : Reading) (t : List ℕ) (r : Reply) (u : List ℕ) : Type 0 where
@@ -25,20 +25,20 @@ pub record TablePromise (reading : Reading) (t : List ℕ) (r : Reply) (u : List
 
 -- the totals of a ledger s for a year and month into a buffer t, with the working spaces w and u
 pub record TotalsPromise (s : List ℕ) (year month : ℕ) (t w u : List ℕ) (r : Reply) (t' w' u' : List ℕ) : Type 0 where
-  pub reply : r ≡ totals_reply (answer_of (decided s year month (length t) (length w) (length u) (plain s)))
+  pub reply : r ≡ reply_of (answer_of (decided s year month (length t) (length w) (length u) (plain s)))
   pub items : t' ≡ items_left (decided s year month (length t) (length w) (length u) (plain s)) t
   pub work : w' ≡ work_left (decided s year month (length t) (length w) (length u) (plain s)) w
   pub spare : u' ≡ work_left (decided s year month (length t) (length w) (length u) (plain s)) u
 
 -- a ledger s written afresh into a buffer o, with the working space w
 pub record WritePromise (s o w : List ℕ) (r : Reply) (o' w' : List ℕ) : Type 0 where
-  pub reply : r ≡ rewrite_reply (rewrite.answered s (length o) (length w) (plain s))
+  pub reply : r ≡ reply_of (rewrite.answered s (length o) (length w) (plain s))
   pub output : o' ≡ rewrite.output_left s (length w) o (plain s)
   pub work : w' ≡ rewrite.work_left w (plain s)
 
 -- content c into a buffer t
 pub record ContentPromise (c t : List ℕ) (r : Reply) (u : List ℕ) : Type 0 where
-  pub reply : r ≡ written_reply (content_answer c (length t))
+  pub reply : r ≡ reply_of (content_answer c (length t))
   pub bytes : u ≡ content_left c t
 
 -- the expression at a text's start, in a form
@@ -55,7 +55,7 @@ pub record SpanPromise (s : List ℕ) (a e : ℕ) (r : Part) : Type 0 where
 
 -- the packet of the first k rows of a table t, with the texts of a ledger s, into a buffer b
 pub record PacketPromise (s t : List ℕ) (k : ℕ) (b : List ℕ) (r : Reply) (u : List ℕ) : Type 0 where
-  pub reply : r ≡ written_reply (written s k t (length b))
+  pub reply : r ≡ reply_of (written s k t (length b))
   pub bytes : u ≡ written_left s k t b
 
 -- one step of a reader that stands at a place of a packet p, with a buffer b for the row and c for the text

@@ -80,7 +80,7 @@ pub fn lumbrisse_totals(
     ensures { TotalsPromise ledger.now year month items.old work.old spare.old result items.new work.new spare.new }
 {
     let a = totals::totals::totals(ledger, year, month, items, work, spare);
-    reply::totals_reply(a)
+    reply::reply_of(a)
 }
 
 // A ledger written afresh (M-103): how many bytes, or a refusal. `work` is working space: a row's width for each row.
@@ -88,7 +88,7 @@ pub fn lumbrisse_write(ledger: &[u8], output: &mut [u8], work: &mut [u8]) -> Rep
     ensures { WritePromise ledger.now output.old work.old result output.new work.new }
 {
     let a = rewrite::write::write(ledger, output, work);
-    reply::rewrite_reply(a)
+    reply::reply_of(a)
 }
 
 // The expression at a text's start: its value and where it stops, or a refusal. Products and quotients round, as in
@@ -130,7 +130,7 @@ pub fn lumbrisse_content(content: &[u8], buffer: &mut [u8]) -> Reply
     ensures { ContentPromise content.now buffer.old result buffer.new }
 {
     let a = access::content::unescape(content, buffer);
-    reply::written_reply(a)
+    reply::reply_of(a)
 }
 
 // Whether a tag is in force after the first k rows: count 1 or 0, or a refusal.
@@ -162,7 +162,7 @@ pub fn lumbrisse_packet_write(ledger: &[u8], table: &[u8], k: usize, packet: &mu
     ensures { PacketPromise ledger.now table.now k packet.old result packet.new }
 {
     let a = writer::write(ledger, table, k, packet);
-    reply::written_reply(a)
+    reply::reply_of(a)
 }
 
 // One step of a reader that stands at a place of a packet: a row, and the text of a detail, or a refusal.

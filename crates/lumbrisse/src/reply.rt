@@ -1,12 +1,10 @@
 // Answers as document 01's numbers. An export gives back numbers by value: a struct for each form of answer.
 ghost use Rattle.std.specs.Prelude.{◌≡◌};
-ghost use Rattle.lumbrisse.specs.Numbers.{replied, reply_of, totals_reply, rewrite_reply, written_reply, force_reply, evaluated_of, handed_by, handed_of};
+ghost use Rattle.lumbrisse.specs.Numbers.{replied, refused_reply, reply_of, force_reply, evaluated_of, handed_by, handed_of};
 
-use access::single;
-use access::tables::Force;
-use access::written::Written;
-use bus::packet::Step;
-use ledger::read::Answer;
+use bus::packet::{Piece, Step};
+use decimal::Decimal;
+use text::stop::Refused;
 
 // Number 0: accepted. What an answer has not is 0.
 #[repr(C)]
@@ -26,7 +24,7 @@ pub struct Evaluated {
     pub bits: u64,
 }
 
-// What a step of a packet's reader hands out: the tag of the row's field.
+// What a step of a packet's reader hands out: the tag of the row's field, as C gets it.
 const ENTRY: usize = 1;
 
 const DETAIL: usize = 2;
@@ -62,76 +60,43 @@ fn replied(number: usize, place: usize, count: usize) -> Reply
     }
 }
 
-pub fn totals_reply(a: totals::totals::Answer) -> Reply
-    ensures { result ≡ totals_reply a }
+fn refused_reply(refused: Refused) -> Reply
+    ensures { result ≡ refused_reply refused }
 {
-    match a {
-        totals::totals::Answer::Items(n) => replied(0, 0, n),
-        totals::totals::Answer::Refusal {
-            number,
-            place,
-            count: need,
-        } => replied(number, place, need),
-    }
+    replied(refused.number, refused.place, refused.count)
 }
 
-pub fn rewrite_reply(a: rewrite::write::Answer) -> Reply
-    ensures { result ≡ rewrite_reply a }
-{
-    match a {
-        rewrite::write::Answer::Bytes(n) => replied(0, 0, n),
-        rewrite::write::Answer::Refusal {
-            number,
-            place,
-            count: bytes,
-        } => replied(number, place, bytes),
-    }
-}
-
-pub fn reply_of(a: Answer) -> Reply
+// So many rows, items or bytes; or a refusal.
+pub fn reply_of(a: Result<usize, Refused>) -> Reply
     ensures { result ≡ reply_of a }
 {
     match a {
-        Answer::Rows(count) => replied(0, 0, count),
-        Answer::Refusal {
-            number,
-            place,
-            count,
-        } => replied(number, place, count),
+        Ok(count) => replied(0, 0, count),
+        Err(refused) => refused_reply(refused),
     }
 }
 
-pub fn written_reply(a: Written) -> Reply
-    ensures { result ≡ written_reply a }
-{
-    match a {
-        Written::Bytes(count) => replied(0, 0, count),
-        Written::Refusal(number, need) => replied(number, 0, need),
-    }
-}
-
-pub fn force_reply(a: Force) -> Reply
+pub fn force_reply(a: Result<bool, Refused>) -> Reply
     ensures { result ≡ force_reply a }
 {
     match a {
-        Force::Yes => replied(0, 0, 1),
-        Force::Not => replied(0, 0, 0),
-        Force::Refusal(number) => replied(number, 0, 0),
+        Ok(force) => replied(0, 0, usize::from(force)),
+        Err(refused) => refused_reply(refused),
     }
 }
 
-pub fn evaluated_of(a: single::Evaluated) -> Evaluated
+pub fn evaluated_of(a: Result<(usize, Decimal), Refused>) -> Evaluated
     ensures { result ≡ evaluated_of a }
 {
     match a {
-        single::Evaluated::Read(stop, value) => Evaluated {
+        Ok((stop, value)) => Evaluated {
             number: 0,
             place: stop,
             bits: decimal::row_bits(value),
         },
-        single::Evaluated::Refusal(number, place) => Evaluated {
-            number,
-            place,
+        Err(refused) => Evaluated {
+            number: refused.number,
+            place: refused.place,
             bits: 0,
         },
     }
@@ -153,9 +118,9 @@ pub fn handed_of(x: Step, at: usize) -> Handed
     ensures { result ≡ handed_of at x }
 {
     match x {
-        Step::Entry(next) => handed_by(0, next, ENTRY, 0),
-        Step::Detail(next, count) => handed_by(0, next, DETAIL, count),
-        Step::End => handed_by(0, at, NOTHING, 0),
-        Step::Refusal(number, place, need) => handed_by(number, place, NOTHING, need),
+        Ok(Some((Piece::Entry, next))) => handed_by(0, next, ENTRY, 0),
+        Ok(Some((Piece::Detail(count), next))) => handed_by(0, next, DETAIL, count),
+        Ok(None) => handed_by(0, at, NOTHING, 0),
+        Err(refused) => handed_by(refused.number, refused.place, NOTHING, refused.count),
     }
 }

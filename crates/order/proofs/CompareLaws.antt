@@ -1,54 +1,70 @@
 -- The order of texts and of records, from what the code knows where it answers.
 use Prim.Native.Nat.{ℕ, zero, suc, ◌+◌, ◌-◌, ◌≤◌, ◌<◌}
 use native.Mathlib.Omega.{arith}
-use mathlib.Core.Path.{◌≡◌, refl, sym, ◌∙◌}
-use mathlib.Core.Bool.{Bool, true, ◌&&◌}
+use mathlib.Core.Path.{◌≡◌, refl, sym, ap, ◌∙◌}
+use mathlib.Core.Bool.{Bool, true, false, ◌&&◌}
 use mathlib.Core.List.{List}
 use borrow.Author.Tests.{eqb-true}
 use lib.Dec.{eqb}
 use lib.ListN.{length, get_or, take, drop, drop_of_length-le}
 use Rattle.text.proofs.Steps.{drop_step}
-use Rattle.text.proofs.TestLaws.{and_left, and_right}
+use Rattle.text.proofs.TestLaws.{absurd_bool, and_left, and_right}
 use Rattle.row.specs.declared.table.Row.{Row}
 use Rattle.row.specs.Row.{fields_in}
 use Rattle.order.specs.Records.{record_width}
 use Rattle.access.specs.Spans.{span_text}
-use Rattle.order.specs.declared.compare.Order.{Order}
-use Rattle.order.specs.declared.compare.Order.TheVariants.{Before, Same, After}
+use Rattle.std.specs.declared.cmp.Ordering.{Ordering}
+use Rattle.std.specs.declared.cmp.Ordering.TheVariants.{Less, Equal, Greater}
 use Rattle.order.specs.Order.{◌next◌, numbers, texts, said, order_of}
 use Rattle.order.specs.steps.Buffers.{said_in}
-use Rattle.order.proofs.Orders.{numbers_less, numbers_same, numbers_more}
+use Rattle.order.proofs.Orders.{numbers_less, numbers_same, numbers_more, cmp_numbers}
+use Rattle.std.specs.Ordering.{is_ne, nat_cmp}
+use Rattle.row.proofs.PourLaws.{le_or_lt}
+use mathlib.Core.Logic.{⊎_elim}
 
 -- ---- texts: r is the order of what is left from i on
 
-module _ (r : Order) (x y : List ℕ) (i : ℕ) (v : r ≡ texts (drop i x) (drop i y)) where
-  pub text_same_lem : length x ≤ i → length y ≤ i → Same ≡ r
+module _ (r : Ordering) (x y : List ℕ) (i : ℕ) (v : r ≡ texts (drop i x) (drop i y)) where
+  -- the first text ends there
+  pub text_end : (o : Ordering) → length x ≤ i → i ≤ length x → i ≤ length y → o ≡ nat_cmp (length x) (length y) → o ≡ r
   unfolding texts
-  text_same_lem h k = sym (v ∙ rw (drop_of_length-le x h, drop_of_length-le y k))
-
-  pub text_shorter : length x ≤ i → i < length y → Before ≡ r
-  unfolding texts
-  text_shorter h k = sym (v ∙ rw (drop_of_length-le x h, drop_step y i k))
+  text_end o h k l e = e ∙ cmp_numbers (length x) (length y) ∙ sym v'
+    where
+      v' : r ≡ numbers (length x) (length y)
+      v' =
+          v ∙ ap (λ z. texts z (drop i y)) (drop_of_length-le x h)
+          ∙ ⊎_elim (λ (g : length y ≤ i). rw (drop_of_length-le y g) (sym (numbers_same (length x) (length y) (omega arith))))
+          (λ (g : i < length y). rw (drop_step y i g) (sym (numbers_less (length x) (length y) (omega arith)))) (le_or_lt (length y) i)
 
   module _ (h : i < length x) where
-    pub text_longer : length y ≤ i → After ≡ r
+    pub text_longer : length y ≤ i → Greater ≡ r
     unfolding texts
     text_longer k = sym (v ∙ rw (drop_of_length-le y k, drop_step x i h))
 
-    module _ (k : i < length y) where
-      pub text_before : get_or x i 0 < get_or y i 0 → Before ≡ r
-      unfolding texts ◌next◌
-      text_before l = sym (v ∙ rw (drop_step x i h, drop_step y i k, numbers_less _ _ l))
+    module _ (k : i < length y) (o : Ordering) (e : o ≡ nat_cmp (get_or x i 0) (get_or y i 0)) where
+      text_next : r ≡ o next texts (drop (i + 1) x) (drop (i + 1) y)
+      unfolding texts
+      text_next = v ∙ rw (drop_step x i h, drop_step y i k, e, cmp_numbers)
 
-      pub text_after : get_or y i 0 < get_or x i 0 → After ≡ r
-      unfolding texts ◌next◌
-      text_after l = sym (v ∙ rw (drop_step x i h, drop_step y i k, numbers_more _ _ l))
+      pub text_differs : (b : Bool) → b ≡ is_ne o → b ≡ true → o ≡ r
+      unfolding ◌next◌
+      text_differs b f t = go o (sym f ∙ t) text_next
+        where
+          go : (o : Ordering) → is_ne o ≡ true → r ≡ o next texts (drop (i + 1) x) (drop (i + 1) y) → o ≡ r
+          go Less g q = sym q
+          go Equal g q = absurd_bool g
+          go Greater g q = sym q
 
-      pub text_on : get_or y i 0 ≤ get_or x i 0 → get_or x i 0 ≤ get_or y i 0 → r ≡ texts (drop (i + 1) x) (drop (i + 1) y)
-      unfolding texts ◌next◌
-      text_on l m = v ∙ rw (drop_step x i h, drop_step y i k, numbers_same (get_or x i 0) (get_or y i 0) (omega arith))
+      pub text_on : (b : Bool) → b ≡ is_ne o → b ≡ false → r ≡ texts (drop (i + 1) x) (drop (i + 1) y)
+      unfolding ◌next◌
+      text_on b f t = go o (sym f ∙ t) text_next
+        where
+          go : (o : Ordering) → is_ne o ≡ false → r ≡ o next texts (drop (i + 1) x) (drop (i + 1) y) → r ≡ texts (drop (i + 1) x) (drop (i + 1) y)
+          go Less g q = absurd_bool (sym g)
+          go Equal g q = q
+          go Greater g q = absurd_bool (sym g)
 
-pub ruleset text_laws = (text_same_lem, text_shorter, text_longer, text_before, text_after, text_on)
+pub ruleset text_laws = (text_end, text_longer, text_differs, text_on)
 
 -- ---- eight bytes at a time
 
@@ -74,13 +90,13 @@ pub eight_same : (x y : List ℕ) (i : ℕ) → i + 8 ≤ length x → i + 8 ≤
     → texts (drop i x) (drop i y) ≡ texts (drop (i + 8) x) (drop (i + 8) y)
 eight_same x y i h l e = sames_on x y i 7 h l e
 
-pub front_on : (r : Order) (x y : List ℕ) (i : ℕ) (b : Bool) → r ≡ texts (drop i x) (drop i y)
+pub front_on : (r : Ordering) (x y : List ℕ) (i : ℕ) (b : Bool) → r ≡ texts (drop i x) (drop i y)
     → (b ≡ true → texts (drop i x) (drop i y) ≡ texts (drop (i + 8) x) (drop (i + 8) y)) → b ≡ true → r ≡ texts (drop (i + 8) x) (drop (i + 8) y)
 front_on r x y i b v f e = v ∙ f e
 
 pub ruleset front_laws = (front_on)
 
-pub spans_told : (s x y : List ℕ) (a b c d : ℕ) (r : Order) → x ≡ span_text s a b → y ≡ span_text s c d → r ≡ texts x y
+pub spans_told : (s x y : List ℕ) (a b c d : ℕ) (r : Ordering) → x ≡ span_text s a b → y ≡ span_text s c d → r ≡ texts x y
     → r ≡ texts (span_text s a b) (span_text s c d)
 spans_told s x y a b c d r ex ey er = rw (er, ex, ey)
 
@@ -94,34 +110,34 @@ row_there t a e r h k =
 -- ---- records, by their rows a and b: o and u are the orders of their texts
 
 module _ (s x y : List ℕ) (a b : Row) (ea : a ≡ fields_in x) (eb : b ≡ fields_in y) where
-  kinds_first : (o u : Order) → o ≡ texts (span_text s a.start a.end) (span_text s b.start b.end)
+  kinds_first : (o u : Ordering) → o ≡ texts (span_text s a.start a.end) (span_text s b.start b.end)
       → u ≡ texts (span_text s a.p a.q) (span_text s b.p b.q)
       → numbers a.kind b.kind next (o next u) ≡ order_of (said_in s x) (said_in s y)
   unfolding order_of said
   kinds_first o u eo eu = rw (eo, eu, ea, eb)
 
-  pub kind_before : a.kind < b.kind → Before ≡ order_of (said_in s x) (said_in s y)
+  pub kind_before : a.kind < b.kind → Less ≡ order_of (said_in s x) (said_in s y)
   unfolding ◌next◌
   kind_before m = rw (numbers_less a.kind b.kind m) at (kinds_first _ _ refl refl)
 
-  pub kind_after : b.kind < a.kind → After ≡ order_of (said_in s x) (said_in s y)
+  pub kind_after : b.kind < a.kind → Greater ≡ order_of (said_in s x) (said_in s y)
   unfolding ◌next◌
   kind_after m = rw (numbers_more a.kind b.kind m) at (kinds_first _ _ refl refl)
 
-  module _ (m : b.kind ≤ a.kind) (n : a.kind ≤ b.kind) (o : Order) (eo : o ≡ texts (span_text s a.start a.end) (span_text s b.start b.end)) where
-    kinds_same : (u : Order) → u ≡ texts (span_text s a.p a.q) (span_text s b.p b.q) → o next u ≡ order_of (said_in s x) (said_in s y)
+  module _ (m : b.kind ≤ a.kind) (n : a.kind ≤ b.kind) (o : Ordering) (eo : o ≡ texts (span_text s a.start a.end) (span_text s b.start b.end)) where
+    kinds_same : (u : Ordering) → u ≡ texts (span_text s a.p a.q) (span_text s b.p b.q) → o next u ≡ order_of (said_in s x) (said_in s y)
     unfolding ◌next◌
     kinds_same u eu = rw (numbers_same a.kind b.kind (omega arith)) at (kinds_first o u eo eu)
 
-    pub span_before : o ≡ Before → Before ≡ order_of (said_in s x) (said_in s y)
+    pub span_before : o ≡ Less → Less ≡ order_of (said_in s x) (said_in s y)
     unfolding ◌next◌
     span_before e = rw e at (kinds_same _ refl)
 
-    pub span_after : o ≡ After → After ≡ order_of (said_in s x) (said_in s y)
+    pub span_after : o ≡ Greater → Greater ≡ order_of (said_in s x) (said_in s y)
     unfolding ◌next◌
     span_after e = rw e at (kinds_same _ refl)
 
-    pub span_same : (u : Order) → o ≡ Same → u ≡ texts (span_text s a.p a.q) (span_text s b.p b.q) → u ≡ order_of (said_in s x) (said_in s y)
+    pub span_same : (u : Ordering) → o ≡ Equal → u ≡ texts (span_text s a.p a.q) (span_text s b.p b.q) → u ≡ order_of (said_in s x) (said_in s y)
     unfolding ◌next◌
     span_same u e eu = rw e at (kinds_same u eu)
 

@@ -1,8 +1,7 @@
 -- The examples hold, by computation.
-use Rattle.std.specs.Prelude.{ℕ, ◌≡◌, refl, false, [], ◌∷◌, map, pos, negsuc}
+use Rattle.decimal.specs.Faults.{Value}
+use Rattle.std.specs.Prelude.{ℕ, ◌≡◌, refl, false, [], ◌∷◌, map, pos, negsuc, Ok}
 use Rattle.decimal.specs.Exact.{decimal_of, exact, exactly, twos_of}
-use Rattle.decimal.specs.declared.Value.{Value}
-use Rattle.decimal.specs.declared.Value.TheVariants.{Known}
 use Rattle.text.specs.Bytes.{bytes}
 use Rattle.row.specs.Row.{row_of, field_bytes, fields_in}
 use Rattle.access.specs.Spans.{good_span, span_text}
@@ -26,6 +25,6 @@ pub items_listed :
     ∷ posting 1 9 (pos 999999999999999)
     ∷ posting 1 10 (negsuc 999999999999998)
     ∷ []))
-    ≡ (8, 1, Known (record { minus = false; size = 2 })) ∷ (7, 3, Known (record { minus = false; size = 999999999999999 })) ∷ []
+    ≡ (8, 1, Ok (record { minus = false; size = 2 })) ∷ (7, 3, Ok (record { minus = false; size = 999999999999999 })) ∷ []
 unfolding bytes texts ◌next◌ numbers said order_of up_to may_precede insert sorted whole_from sum_of summed those alike heads item_of listed items row_of field_bytes fields_in twos_of good_span span_text decimal_of exact exactly
 items_listed = refl

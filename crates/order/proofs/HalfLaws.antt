@@ -1,6 +1,6 @@
 -- A buffer sorted by halves is the buffer sorted.
 use Prim.Native.Nat.{ℕ, zero, suc, ◌+◌, ◌-◌, ◌*◌, ◌≤◌, ◌<◌}
-use native.Mathlib.Nat.{zero-add}
+use native.Mathlib.Nat.{sub-zero}
 use native.Mathlib.Omega.{arith}
 use mathlib.Core.Path.{◌≡◌, refl, sym, ap, ◌∙◌}
 use mathlib.Core.Bool.{true, false, cond}
@@ -8,7 +8,7 @@ use mathlib.Core.List.{List, [], ◌∷◌, ◌++◌, append_assoc, append-nil}
 use borrow.Author.Tests.{le-leb, lt-leb}
 use lib.Dec.{leb}
 use lib.ListN.{length, take, drop, take-append-drop, length-append, length-drop, drop_of_length-le}
-use lib.Seq.{take_at, drop_at, drop-drop, take_all, paste}
+use lib.Seq.{take_at, drop_at, drop-drop, take_all}
 use Rattle.order.specs.Order.{by}
 use Rattle.order.specs.steps.Buffers.{said_in, Ordered, records_from, records_of, joined, sorted_bytes, record_room}
 use Rattle.order.specs.Sorted.{insert, sorted}
@@ -100,9 +100,10 @@ module _ (s : List ℕ) (xs ys : List (List ℕ)) (z : List ℕ) (wx : Wide xs) 
           rw (eb, length-append X (Y ++ z), length_X, length-append Y z, length_Y)
           (omega (arith, ap length ey, length-drop (m * record_width) t, length-append (joined ys) z, length_joined ys wy))
 
-      in_one : v ≡ merging s b 0 m m (record_room b) ++ drop (record_room b * record_width) u → w ≡ paste b 0 (drop 0 v) (record_room t * record_width)
+      in_one : (x : List ℕ) → v ≡ merging s b 0 m m (record_room b) ++ drop (record_room b * record_width) u
+          → x ≡ take (record_room t * record_width - 0) (drop 0 v) → w ≡ x ++ drop (record_room t * record_width - 0) (drop 0 b)
           → w ≡ joined (sorted (by (said_in s)) (xs ++ ys)) ++ z
-      in_one ev ew =
+      in_one x ev fx ew =
           let all = joined (sorted (by (said_in s)) (xs ++ ys)) in
           let n = record_room t in
           let lw : length all ≡ n * record_width =
@@ -111,15 +112,16 @@ module _ (s : List ℕ) (xs ys : List (List ℕ)) (z : List ℕ) (wx : Wide xs) 
           let f : v ≡ all ++ drop (n * record_width) u = rw (length_b, eb, mg) at ev in
           let k : length (X ++ Y) ≡ n * record_width = rw (length-append X Y, length_X, length_Y) (omega arith) in
           let g : drop (n * record_width) b ≡ z = rw (eb, ← append_assoc X Y z) (drop_at (X ++ Y) z (n * record_width) k) in
-          rw (ew, f, take_at all (drop (n * record_width) u) (n * record_width) lw, zero-add, g)
+          rw (ew, fx, sub-zero, f, take_at all (drop (n * record_width) u) (n * record_width) lw, g)
 
 -- the whole: m is the number of records in the first part
-pub halves : (s t p q a b u v w : List ℕ) (m : ℕ) → m ≤ record_room t
+pub halves : (s t p q a b u v x w : List ℕ) (m : ℕ) → m ≤ record_room t
     → p ≡ sorted_bytes s (take (m * record_width - 0) (drop 0 t)) → a ≡ take 0 t ++ (p ++ drop (m * record_width - 0) (drop 0 t))
     → q ≡ sorted_bytes s (take (length a - m * record_width) (drop (m * record_width) a)) → b ≡ take (m * record_width) a ++ (q ++ drop (length a - m * record_width) (drop (m * record_width) a))
-    → v ≡ merging s b 0 m m (record_room b) ++ drop (record_room b * record_width) u → w ≡ paste b 0 (drop 0 v) (record_room t * record_width)
+    → v ≡ merging s b 0 m m (record_room b) ++ drop (record_room b * record_width) u
+    → x ≡ take (record_room t * record_width - 0) (drop 0 v) → w ≡ x ++ drop (record_room t * record_width - 0) (drop 0 b)
     → w ≡ sorted_bytes s t
-halves s t p q a b u v w m lm ep ea eq eb ev ew =
+halves s t p q a b u v x w m lm ep ea eq eb ev fx ew =
     let n = record_room t in
     let xs = records_from t 0 m in
     let ys = records_from t m (n - m) in
@@ -137,7 +139,7 @@ halves s t p q a b u v w m lm ep ea eq eb ev ew =
     let fb = both_halves s xs ys z wx wy lz t p q a b u v w m ex ey em en fa eq eb in
     let et : joined (xs ++ ys) ++ z ≡ t =
     rw (joined_append xs ys, append_assoc (joined xs) (joined ys) z, ← ey, ← ex) (take-append-drop (m * record_width) t) in
-    in_one s xs ys z wx wy lz t p q a b u v w m ex ey em en fb ev ew
+    in_one s xs ys z wx wy lz t p q a b u v w m ex ey em en fb x ev fx ew
     ∙ sym (sorted_joined s (xs ++ ys) z (wide_append xs ys wx wy) lz)
     ∙ ap (sorted_bytes s) et
 

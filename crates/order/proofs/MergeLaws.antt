@@ -1,75 +1,34 @@
 -- Laws of the merge, from what the code knows in each turn.
 use Prim.Native.Nat.{ℕ, ◌+◌, ◌-◌, ◌*◌, ◌≤◌, ◌<◌}
-use native.Mathlib.Nat.{add-zero}
-use native.Mathlib.Numerals.{add-one}
 use native.Mathlib.Omega.{arith}
 use mathlib.Core.Path.{◌≡◌, refl, sym, ap, ◌∙◌}
 use mathlib.Core.Logic.{⊎_elim}
 use mathlib.Core.Bool.{Bool, true, false}
 use mathlib.Core.List.{List, [], ◌∷◌, ◌++◌, append_assoc}
 use borrow.Author.Tests.{lt-ltb, le-ltb}
-use lib.ListN.{length, get_or, take, drop, set, take-append-drop, length-set, length-drop}
-use lib.Seq.{get_or-drop, drop-drop, take-add, paste, paste-zero, paste-suc, take-paste, drop-paste, length-paste}
+use lib.ListN.{length, take, drop, take-append-drop, length-drop}
+use borrow.Rule.Slice.PartMut.{put_mid}
+use lib.Seq.{drop-drop, paste, take-paste, drop-paste, length-paste}
 use Rattle.text.proofs.TestLaws.{absurd_bool}
 use Rattle.row.proofs.PourLaws.{le_or_lt}
 use Rattle.order.specs.Records.{record_width}
 use Rattle.order.specs.steps.Buffers.{record_room, said_in, record_at, records_from, joined}
-use Rattle.order.specs.declared.compare.Order.{Order}
-use Rattle.order.specs.declared.compare.Order.TheVariants.{Before, Same, After}
+use Rattle.std.specs.declared.cmp.Ordering.{Ordering}
+use Rattle.std.specs.declared.cmp.Ordering.TheVariants.{Less, Equal, Greater}
 use Rattle.order.specs.Order.{order_of, up_to, may_precede, by}
 use Rattle.order.specs.steps.Merge.{left_first, merging}
 use Rattle.order.proofs.SortLaws.{merge_left, merge_right, merge_none, merge_only}
 use Rattle.order.proofs.RecordLaws.{records_step, records_none}
 
--- ---- bytes are copied one by one
+-- ---- a record is copied
 
-pub copy_start : (d s : List ℕ) (k : ℕ) → d ≡ paste d k s 0
-copy_start d s k = paste-zero d k s
-
-module _ (d t s : List ℕ) (i k n : ℕ) (v : t ≡ paste d k (drop i s) n) where
-  pub copy_byte : (m : ℕ) → n < m → i + m ≤ length s → k + m ≤ length d
-      → set t (k + n) (get_or s (i + n) 0) ≡ paste d k (drop i s) (n + 1)
-  copy_byte m h l r =
-      rw (v, add-one, ← get_or-drop i s n 0) (paste-suc d k (drop i s) n 0 (omega arith) (rw length-drop (omega arith)))
-
-  pub copy_end : (m : ℕ) → n ≤ m → m ≤ n → t ≡ paste d k (drop i s) m
-  copy_end m h l = let e : m ≡ n = omega arith in rw e v
-
-pub copy_length : (d t : List ℕ) (a b : ℕ) → length t ≡ length d → length (set t a b) ≡ length d
-copy_length d t a b e = rw length-set e
-
-pub ruleset copy_laws = (copy_start, copy_byte, copy_end, copy_length)
-
--- ---- eight bytes, and a record
-
-pub copy_eight : (d s : List ℕ) (i k : ℕ) → i + 8 ≤ length s → k + 8 ≤ length d
-    → set (set (set (set (set (set (set (set d k (get_or s i 0)) (k + 1) (get_or s (i + 1) 0)) (k + 2) (get_or s (i + 2) 0)) (k + 3) (get_or s (i + 3) 0)) (k + 4) (get_or s (i + 4) 0)) (k + 5) (get_or s (i + 5) 0)) (k + 6) (get_or s (i + 6) 0)) (k + 7) (get_or s (i + 7) 0)
-    ≡ paste d k (drop i s) 8
-copy_eight d s i k h l =
-    let e0 : set d (k + 0) (get_or s (i + 0) 0) ≡ paste d k (drop i s) 1 = copy_byte d d s i k 0 (paste-zero d k (drop i s)) 8 (omega arith) h l in
-    let e1 = copy_byte d _ s i k 1 (rw (add-zero k, add-zero i) at e0) 8 (omega arith) h l in
-    let e2 = copy_byte d _ s i k 2 e1 8 (omega arith) h l in
-    let e3 = copy_byte d _ s i k 3 e2 8 (omega arith) h l in
-    let e4 = copy_byte d _ s i k 4 e3 8 (omega arith) h l in
-    let e5 = copy_byte d _ s i k 5 e4 8 (omega arith) h l in
-    let e6 = copy_byte d _ s i k 6 e5 8 (omega arith) h l in
-    copy_byte d _ s i k 7 e6 8 (omega arith) h l
-
--- what is copied behind what was
-copy_more : (d s : List ℕ) (i k n m : ℕ) {t u : List ℕ} → i + n + m ≤ length s → k + n + m ≤ length d → t ≡ paste d k (drop i s) n → u ≡ paste t (k + n) (drop (i + n) s) m
-    → u ≡ paste d k (drop i s) (n + m)
-copy_more d s i k n m h l e f =
-    let g : n ≤ length (drop i s) = rw length-drop (omega arith) in
-    let a : k + n + m ≡ k + (n + m) = omega arith in
-    rw (f, e, take-paste d k (drop i s) n (omega arith) g, ← drop-drop m (k + n) (paste d k (drop i s) n), drop-paste d k (drop i s) n (omega arith) g, drop-drop m (k + n) d, a, take-add n m (drop i s), drop-drop n i s)
-    (ap (λ (x : List ℕ). x ++ drop (k + (n + m)) d) (append_assoc (take k d) (take n (drop i s)) (take m (drop (i + n) s))))
-
-pub copy_record : (d s : List ℕ) (i k : ℕ) {a b c e : List ℕ} → i + record_width ≤ length s → k + record_width ≤ length d
-    → a ≡ paste d k (drop i s) 8 → b ≡ paste a (k + 8) (drop (i + 8) s) 8 → c ≡ paste b (k + 16) (drop (i + 16) s) 8 → e ≡ paste c (k + 24) (drop (i + 24) s) 8
-    → e ≡ paste d k (drop i s) record_width
-copy_record d s i k h l ea eb ec ee =
-    copy_more d s i k 24 8 (omega arith) (omega arith)
-    (copy_more d s i k 16 8 (omega arith) (omega arith) (copy_more d s i k 8 8 (omega arith) (omega arith) ea eb) ec) ee
+-- z is what was read at i
+pub copy_record : (d s z : List ℕ) (i k : ℕ) → i + record_width ≤ length s → k + record_width ≤ length d
+    → z ≡ take (i + record_width - i) (drop i s) → put_mid k (k + record_width - k) d z ≡ paste d k (drop i s) record_width
+copy_record d s z i k h l e =
+    let a : i + record_width - i ≡ record_width = omega arith in
+    let b : k + record_width - k ≡ record_width = omega arith in
+    rw (e, a, b, drop-drop record_width k d) (sym (append_assoc (take k d) (take record_width (drop i s)) (drop (k + record_width) d)))
 
 -- ---- which record comes next
 
@@ -82,20 +41,20 @@ module _ (s t : List ℕ) (i m j n : ℕ) where
   unfolding left_first
   right_none h k = rw (lt-ltb i m h, le-ltb j n k)
 
-  module _ (h : i < m) (k : j < n) (o : Order) (e : o ≡ order_of (said_in s (record_at t i)) (said_in s (record_at t j))) where
+  module _ (h : i < m) (k : j < n) (o : Ordering) (e : o ≡ order_of (said_in s (record_at t i)) (said_in s (record_at t j))) where
     heads_first : up_to o ≡ left_first s t i m j n
     unfolding left_first may_precede
     heads_first = rw (lt-ltb i m h, lt-ltb j n k, ← e)
 
-    pub heads_before : o ≡ Before → true ≡ left_first s t i m j n
+    pub heads_before : o ≡ Less → true ≡ left_first s t i m j n
     unfolding up_to
     heads_before f = rw f at heads_first
 
-    pub heads_same : o ≡ Same → true ≡ left_first s t i m j n
+    pub heads_same : o ≡ Equal → true ≡ left_first s t i m j n
     unfolding up_to
     heads_same f = rw f at heads_first
 
-    pub heads_after : o ≡ After → false ≡ left_first s t i m j n
+    pub heads_after : o ≡ Greater → false ≡ left_first s t i m j n
     unfolding up_to
     heads_after f = rw f at heads_first
 

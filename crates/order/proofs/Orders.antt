@@ -7,54 +7,56 @@ use mathlib.Core.Bool.{true, false, ◌&&◌}
 use mathlib.Core.List.{List, [], ◌∷◌}
 use borrow.Author.Tests.{lt-ltb, le-ltb}
 use Rattle.text.proofs.TestLaws.{absurd_bool}
-use Rattle.order.specs.declared.compare.Order.{Order}
-use Rattle.order.specs.declared.compare.Order.TheVariants.{Before, Same, After}
+use Rattle.std.specs.declared.cmp.Ordering.{Ordering}
+use Rattle.std.specs.Ordering.{nat_cmp}
+use Rattle.std.specs.Cmp.{nat_cmp_is}
+use Rattle.std.specs.declared.cmp.Ordering.TheVariants.{Less, Equal, Greater}
 use Rattle.order.specs.Order.{◌next◌, numbers, texts, Said, order_of, up_to, may_precede, by}
 use Rattle.order.specs.Groups.{alike}
 
 -- ---- seen from the other side
 
-unfoldable turned : Order → Order
-turned Before = After
-turned Same = Same
-turned After = Before
+unfoldable turned : Ordering → Ordering
+turned Less = Greater
+turned Equal = Equal
+turned Greater = Less
 
-turned_next : (a b : Order) → turned (a next b) ≡ turned a next turned b
+turned_next : (a b : Ordering) → turned (a next b) ≡ turned a next turned b
 unfolding turned ◌next◌
-turned_next Before b = refl
-turned_next Same b = refl
-turned_next After b = refl
+turned_next Less b = refl
+turned_next Equal b = refl
+turned_next Greater b = refl
 
 -- ---- of three things: a is the order of the first and second, b of the second and third, c of the first and third
 
-abbrev Chain : Order → Order → Order → Type 0
-Chain Before Before c = c ≡ Before
-Chain Before Same c = c ≡ Before
-Chain Before After c = Unit {0}
-Chain Same b c = c ≡ b
-Chain After Before c = Unit {0}
-Chain After Same c = c ≡ After
-Chain After After c = c ≡ After
+abbrev Chain : Ordering → Ordering → Ordering → Type 0
+Chain Less Less c = c ≡ Less
+Chain Less Equal c = c ≡ Less
+Chain Less Greater c = Unit {0}
+Chain Equal b c = c ≡ b
+Chain Greater Less c = Unit {0}
+Chain Greater Equal c = c ≡ Greater
+Chain Greater Greater c = c ≡ Greater
 
-chain_next : (a b c d e f : Order) → Chain a b c → Chain d e f → Chain (a next d) (b next e) (c next f)
+chain_next : (a b c d e f : Ordering) → Chain a b c → Chain d e f → Chain (a next d) (b next e) (c next f)
 unfolding ◌next◌
-chain_next Before Before c d e f h k = rw h
-chain_next Before Same c d Before f h k = rw h
-chain_next Before Same c d Same f h k = rw h
-chain_next Before Same c d After f h k = tt
-chain_next Before After c d e f h k = tt
-chain_next Same Before c Before e f h k = rw h
-chain_next Same Before c Same e f h k = rw h
-chain_next Same Before c After e f h k = tt
-chain_next Same Same c d e f h k = rw h k
-chain_next Same After c Before e f h k = tt
-chain_next Same After c Same e f h k = rw h
-chain_next Same After c After e f h k = rw h
-chain_next After Before c d e f h k = tt
-chain_next After Same c d Before f h k = tt
-chain_next After Same c d Same f h k = rw h
-chain_next After Same c d After f h k = rw h
-chain_next After After c d e f h k = rw h
+chain_next Less Less c d e f h k = rw h
+chain_next Less Equal c d Less f h k = rw h
+chain_next Less Equal c d Equal f h k = rw h
+chain_next Less Equal c d Greater f h k = tt
+chain_next Less Greater c d e f h k = tt
+chain_next Equal Less c Less e f h k = rw h
+chain_next Equal Less c Equal e f h k = rw h
+chain_next Equal Less c Greater e f h k = tt
+chain_next Equal Equal c d e f h k = rw h k
+chain_next Equal Greater c Less e f h k = tt
+chain_next Equal Greater c Equal e f h k = rw h
+chain_next Equal Greater c Greater e f h k = rw h
+chain_next Greater Less c d e f h k = tt
+chain_next Greater Equal c d Less f h k = tt
+chain_next Greater Equal c d Equal f h k = rw h
+chain_next Greater Equal c d Greater f h k = rw h
+chain_next Greater Greater c d e f h k = rw h
 
 -- ---- numbers
 
@@ -67,17 +69,25 @@ three : (a b : ℕ) → Three a b
 three a b = elim (dec_lt a b) [ yes h ↦ less h | no h ↦ elim (dec_lt b a) [ yes k ↦ more k | no k ↦ same (omega arith) ] ]
 
 module _ (a b : ℕ) where
-  pub numbers_less : a < b → numbers a b ≡ Before
+  pub numbers_less : a < b → numbers a b ≡ Less
   unfolding numbers
   numbers_less h = rw (lt-ltb a b h)
 
-  pub numbers_same : a ≡ b → numbers a b ≡ Same
+  pub numbers_same : a ≡ b → numbers a b ≡ Equal
   unfolding numbers
   numbers_same h = rw (le-ltb a b (omega arith), le-ltb b a (omega arith))
 
-  pub numbers_more : b < a → numbers a b ≡ After
+  pub numbers_more : b < a → numbers a b ≡ Greater
   unfolding numbers
   numbers_more h = rw (le-ltb a b (omega arith), lt-ltb b a h)
+
+pub cmp_numbers : (a b : ℕ) → nat_cmp a b ≡ numbers a b
+cmp_numbers a b =
+    elim (three a b) [
+      | less h ↦ sym (nat_cmp_is a b Less h) ∙ sym (numbers_less a b h)
+      | same h ↦ sym (nat_cmp_is a b Equal h) ∙ sym (numbers_same a b h)
+      | more h ↦ sym (nat_cmp_is a b Greater h) ∙ sym (numbers_more a b h)
+    ]
 
 numbers_turned : (a b : ℕ) → numbers b a ≡ turned (numbers a b)
 unfolding turned
@@ -115,18 +125,18 @@ texts_chain [] [] z = refl
 texts_chain [] (c ∷ y) [] = tt
 texts_chain [] (c ∷ y) (d ∷ z) = go (numbers c d next texts y z)
   where
-    go : (o : Order) → Chain Before o Before
-    go Before = refl
-    go Same = refl
-    go After = tt
+    go : (o : Ordering) → Chain Less o Less
+    go Less = refl
+    go Equal = refl
+    go Greater = tt
 texts_chain (b ∷ x) [] [] = refl
 texts_chain (b ∷ x) [] (d ∷ z) = tt
 texts_chain (b ∷ x) (c ∷ y) [] = go (numbers b c next texts x y)
   where
-    go : (o : Order) → Chain o After After
-    go Before = tt
-    go Same = refl
-    go After = refl
+    go : (o : Ordering) → Chain o Greater Greater
+    go Less = tt
+    go Equal = refl
+    go Greater = refl
 texts_chain (b ∷ x) (c ∷ y) (d ∷ z) =
     chain_next (numbers b c) (numbers c d) (numbers b d) (texts x y) (texts y z) (texts x z) (numbers_chain b c d) (texts_chain x y z)
 
@@ -157,22 +167,22 @@ module _ (a b : Said) where
   unfolding may_precede up_to turned
   may_either e = rw said_turned (go (order_of a b) e)
     where
-      go : (o : Order) → up_to o ≡ false → up_to (turned o) ≡ true
-      go Before f = cc
-      go Same f = refl
-      go After f = refl
+      go : (o : Ordering) → up_to o ≡ false → up_to (turned o) ≡ true
+      go Less f = cc
+      go Equal f = refl
+      go Greater f = refl
 
   -- one may precede what another that it may precede may precede
   pub may_through : (c : Said) → may_precede a b ≡ true → may_precede b c ≡ true → may_precede a c ≡ true
   unfolding may_precede up_to
   may_through c e f = go (order_of a b) (order_of b c) (order_of a c) (said_chain c) e f
     where
-      go : (o p q : Order) → Chain o p q → up_to o ≡ true → up_to p ≡ true → up_to q ≡ true
-      go Before Before q h k l = rw h
-      go Before Same q h k l = rw h
-      go Before After q h k l = cc
-      go Same p q h k l = rw h l
-      go After p q h k l = cc
+      go : (o p q : Ordering) → Chain o p q → up_to o ≡ true → up_to p ≡ true → up_to q ≡ true
+      go Less Less q h k l = rw h
+      go Less Equal q h k l = rw h
+      go Less Greater q h k l = cc
+      go Equal p q h k l = rw h l
+      go Greater p q h k l = cc
 
 -- so it is of things, by what f says of them
 module _ {A : Type 0} (f : A → Said) where
@@ -184,40 +194,40 @@ module _ {A : Type 0} (f : A → Said) where
 
 module _ {A : Type 0} (f : A → Said) (x y : A) where
   -- two are alike where their order is none
-  told : (o : Order) → order_of (f x) (f y) ≡ o → alike (by f) x y ≡ (up_to o && up_to (turned o))
+  told : (o : Ordering) → order_of (f x) (f y) ≡ o → alike (by f) x y ≡ (up_to o && up_to (turned o))
   unfolding alike may_precede
   told o e = rw (said_turned (f x) (f y), e)
 
-  pub alike_same : order_of (f x) (f y) ≡ Same → alike (by f) x y ≡ true
+  pub alike_same : order_of (f x) (f y) ≡ Equal → alike (by f) x y ≡ true
   unfolding up_to turned
-  alike_same e = told Same e
+  alike_same e = told Equal e
 
-  pub alike_before : order_of (f x) (f y) ≡ Before → alike (by f) x y ≡ false
+  pub alike_before : order_of (f x) (f y) ≡ Less → alike (by f) x y ≡ false
   unfolding up_to turned
-  alike_before e = told Before e
+  alike_before e = told Less e
 
-  pub alike_after : order_of (f x) (f y) ≡ After → alike (by f) x y ≡ false
+  pub alike_after : order_of (f x) (f y) ≡ Greater → alike (by f) x y ≡ false
   unfolding up_to turned
-  alike_after e = told After e
+  alike_after e = told Greater e
 
-  same_alike : alike (by f) x y ≡ true → order_of (f x) (f y) ≡ Same
+  same_alike : alike (by f) x y ≡ true → order_of (f x) (f y) ≡ Equal
   unfolding up_to turned
   same_alike e = go (order_of (f x) (f y)) refl
     where
-      go : (o : Order) → order_of (f x) (f y) ≡ o → o ≡ Same
-      go Before g = absurd_bool (sym (told Before g) ∙ e)
-      go Same g = refl
-      go After g = absurd_bool (sym (told After g) ∙ e)
+      go : (o : Ordering) → order_of (f x) (f y) ≡ o → o ≡ Equal
+      go Less g = absurd_bool (sym (told Less g) ∙ e)
+      go Equal g = refl
+      go Greater g = absurd_bool (sym (told Greater g) ∙ e)
 
 -- ---- those that are alike say the same but for their values
 
-next_same : (a b : Order) → a next b ≡ Same → (a ≡ Same) × (b ≡ Same)
+next_same : (a b : Ordering) → a next b ≡ Equal → (a ≡ Equal) × (b ≡ Equal)
 unfolding ◌next◌
-next_same Before b e = (cc, cc)
-next_same Same b e = (refl, e)
-next_same After b e = (cc, cc)
+next_same Less b e = (cc, cc)
+next_same Equal b e = (refl, e)
+next_same Greater b e = (cc, cc)
 
-numbers_equal : (a b : ℕ) → numbers a b ≡ Same → a ≡ b
+numbers_equal : (a b : ℕ) → numbers a b ≡ Equal → a ≡ b
 numbers_equal a b e =
     elim (three a b) [
       | less h ↦ absurd (let z : ◌≡◌ {A = ℕ} 0 1 = (let d = sym (numbers_less a b h) ∙ e in cc) in omega arith)
@@ -225,7 +235,7 @@ numbers_equal a b e =
       | more h ↦ absurd (let z : ◌≡◌ {A = ℕ} 0 1 = (let d = sym (numbers_more a b h) ∙ e in cc) in omega arith)
     ]
 
-texts_equal : (x y : List ℕ) → texts x y ≡ Same → x ≡ y
+texts_equal : (x y : List ℕ) → texts x y ≡ Equal → x ≡ y
 unfolding texts
 texts_equal [] [] e = refl
 texts_equal [] (c ∷ y) e = absurd (let z : ◌≡◌ {A = ℕ} 0 1 = cc in omega arith)

@@ -1,23 +1,24 @@
 -- Laws of the runs of a buffer.
+use Rattle.text.specs.Refusals.{refused_with}
+use Rattle.text.specs.declared.stop.Refused.{Refused}
+use Rattle.std.specs.Prelude.{Err, Ok, Result}
+use Rattle.std.specs.Result.{is_err}
+use Rattle.decimal.specs.Faults.{Value}
 use Prim.Native.Nat.{ℕ, suc, ◌+◌, ◌-◌, ◌*◌, ◌≤◌, ◌<◌}
 use native.Mathlib.Nat.{add-zero, zero-add}
 use native.Mathlib.Numerals.{add-one}
 use native.Mathlib.Omega.{arith}
 use mathlib.Core.Path.{◌≡◌, refl, sym, ap, ◌∙◌}
-use mathlib.Core.Bool.{Bool, true, false, cond}
+use mathlib.Core.Bool.{Bool, true, false, cond, not}
 use mathlib.Core.List.{List, [], ◌∷◌, ◌++◌, append-nil, map}
 use lib.ListN.{length, take, drop}
 use lib.Seq.{take_at, drop_at}
-use Rattle.decimal.specs.declared.Decimal.{Decimal}
-use Rattle.decimal.specs.declared.Value.{Value}
-use Rattle.decimal.specs.declared.Value.TheVariants.{Known, Refused}
 use Rattle.row.specs.declared.table.Row.{Row}
 use Rattle.row.specs.Row.{fields_in}
 use Rattle.order.specs.Records.{record_width}
 use Rattle.order.specs.steps.Buffers.{record_room, said_in, Ordered, record_at, records_from, records_of, joined}
-use Rattle.order.specs.declared.runs.Counted.{Counted}
-use Rattle.order.specs.declared.compare.Order.{Order}
-use Rattle.order.specs.declared.compare.Order.TheVariants.{Before, Same, After}
+use Rattle.std.specs.declared.cmp.Ordering.{Ordering}
+use Rattle.std.specs.declared.cmp.Ordering.TheVariants.{Less, Equal, Greater}
 use Rattle.order.specs.Order.{said, order_of, by}
 use Rattle.order.specs.Sums.{summed}
 use Rattle.order.specs.Groups.{those, alike, heads, item_of, listed, is_known, counted}
@@ -38,16 +39,16 @@ module _ (s t : List ℕ) (i j : ℕ) (v : run_end s t i ≡ j + leading (by (sa
   unfolding leading
   run_done h = sym (v ∙ rw (records_none t j (record_room t) h, add-zero))
 
-  module _ (h : j < record_room t) (o : Order) (e : o ≡ order_of (said_in s (record_at t i)) (said_in s (record_at t j))) where
-    pub run_before : o ≡ Before → j ≡ run_end s t i
+  module _ (h : j < record_room t) (o : Ordering) (e : o ≡ order_of (said_in s (record_at t i)) (said_in s (record_at t j))) where
+    pub run_before : o ≡ Less → j ≡ run_end s t i
     unfolding leading
     run_before f = sym (v ∙ rw (records_step t j (record_room t) h, alike_before (said_in s) (record_at t i) (record_at t j) (sym e ∙ f), add-zero))
 
-    pub run_after : o ≡ After → j ≡ run_end s t i
+    pub run_after : o ≡ Greater → j ≡ run_end s t i
     unfolding leading
     run_after f = sym (v ∙ rw (records_step t j (record_room t) h, alike_after (said_in s) (record_at t i) (record_at t j) (sym e ∙ f), add-zero))
 
-    pub run_on : o ≡ Same → run_end s t i ≡ j + 1 + leading (by (said_in s)) (record_at t i) (records_from t (j + 1) (record_room t - (j + 1)))
+    pub run_on : o ≡ Equal → run_end s t i ≡ j + 1 + leading (by (said_in s)) (record_at t i) (records_from t (j + 1) (record_room t - (j + 1)))
     unfolding leading
     run_on f = v ∙ rw (records_step t j (record_room t) h, alike_same (said_in s) (record_at t i) (record_at t j) (sym e ∙ f)) (omega arith)
 
@@ -179,7 +180,7 @@ module _ (s t : List ℕ) (i : ℕ) (h : i < record_room t) (o : Ordered (by (sa
 
 -- ---- the pass: k runs were passed, and record i starts the next; a is what all of them come to
 
-pub record Pass (s t : List ℕ) (a : Counted) (i k : ℕ) : Type 0 where
+pub record Pass (s t : List ℕ) (a : Result ℕ Refused) (i k : ℕ) : Type 0 where
   pub whole : a ≡ counted place_in k (map (item_of (said_in s) (records_of t)) (heads (by (said_in s)) (records_from t i (record_room t - i))))
   pub ordered : Ordered (by (said_in s)) (records_from t i (record_room t - i))
   pub fresh : i < record_room t → Fresh (by (said_in s)) (by_either (said_in s)) (by_through (said_in s)) (record_at t i) (records_from t 0 i)
@@ -192,28 +193,31 @@ pass_first s t o =
     let e : record_room t - 0 ≡ record_room t = omega arith in
     record { whole = rw e; ordered = rw e o; fresh = λ h z l. refl; few = omega arith; within = omega arith }
 
-module _ (s t : List ℕ) (a : Counted) (i k : ℕ) (p : Pass s t a i k) where
-  pub pass_last : record_room t ≤ i → Counted.Items k ≡ a
+err_known : (v : Value) (b : Bool) → is_err v ≡ b → is_known v ≡ not b
+unfolding is_known
+err_known (Ok d) b e = rw (← e)
+err_known (Err n) b e = rw (← e)
+
+module _ (s t : List ℕ) (a : Result ℕ Refused) (i k : ℕ) (p : Pass s t a i k) where
+  pub pass_last : record_room t ≤ i → Ok k ≡ a
   unfolding heads counted
   pass_last h = sym (p.whole ∙ rw (records_none t i (record_room t) h))
 
   -- the run at i goes to e, and has the sum v
   module _ (h : i < record_room t) (e : ℕ) (ee : e ≡ run_end s t i) (v : Value) (ev : v ≡ summed (map value_in (records_from t i (e - i)))) where
     pass_run : a ≡ cond (is_known v) (counted place_in (k + 1) (map (item_of (said_in s) (records_of t)) (heads (by (said_in s)) (records_from t e (record_room t - e)))))
-        (Counted.Large (fields_in (record_at t i)).start)
+        (Err (refused_with 6 (fields_in (record_at t i)).start 0))
     unfolding counted
     pass_run =
         p.whole ∙ rw (runs_follow s t i h p.ordered, item_there s t i h p.ordered (p.fresh h) v (rw ee at ev), ee)
 
-    pub pass_large : (n : ℕ) (r : Row) → v ≡ Refused n → r ≡ fields_in (record_at t i) → Counted.Large r.start ≡ a
-    unfolding is_known
-    pass_large n r f g = sym (pass_run ∙ rw (f, g))
+    pub pass_large : (b : Bool) (r : Row) (n : ℕ) (x : Refused) → b ≡ is_err v → b ≡ true → n ≡ 6 → r ≡ fields_in (record_at t i) → x ≡ refused_with n r.start 0 → Err x ≡ a
+    pass_large b r n x f q z g y = sym (pass_run ∙ rw (err_known v true (sym f ∙ q), y, z, g))
 
-    pub pass_on : (d : Decimal) → v ≡ Known d → i < e → e ≤ record_room t → Pass s t a e (k + 1)
-    unfolding is_known
-    pass_on d f l m =
+    pub pass_on : (b : Bool) → b ≡ is_err v → b ≡ false → i < e → e ≤ record_room t → Pass s t a e (k + 1)
+    pass_on b f q l m =
         record {
-          whole = pass_run ∙ rw f;
+          whole = pass_run ∙ rw (err_known v false (sym f ∙ q));
           ordered = rw ee (ordered_there s t i h p.ordered);
           fresh = rw ee (fresh_there s t i h p.ordered (p.fresh h));
           few = omega arith;

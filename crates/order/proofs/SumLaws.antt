@@ -1,14 +1,19 @@
 -- Laws of the exact sum.
-use Prim.Native.Nat.{ℕ, ◌+◌, ◌-◌, ◌*◌, ◌^◌, ◌≤◌, ◌<◌}
+use Rattle.decimal.specs.declared.Fault.{Fault}
+use Rattle.std.specs.Prelude.{Err}
+use Rattle.decimal.specs.Faults.{Value}
+use Prim.Native.Nat.{ℕ, ◌+◌, ◌-◌, ◌*◌, ◌%◌, ◌^◌, ◌≤◌, ◌<◌}
 use native.Mathlib.Omega.{arith}
 use native.Mathlib.Nat.{sub-zero}
 use mathlib.Core.Path.{◌≡◌, sym, ap, ◌∙◌}
-use mathlib.Core.Bool.{true, false}
+use mathlib.Core.Bool.{Bool, true, false}
+use mathlib.Core.Logic.{⊎_elim}
+use mir.Val.{bool_byte}
+use Rattle.std.specs.Bool.{FalseIff}
+use Rattle.row.proofs.PourLaws.{le_or_lt}
 use mathlib.Core.List.{List, map}
 use borrow.Author.Tests.{lt-ltb, le-ltb, le-leb, lt-leb}
 use lib.IntN.{ℤ, pos, neg_ℤ, ◌+ℤ◌, ◌-ℤ◌, +ℤ_assoc, +ℤ_comm, +ℤ_idr, +ℤ_idl, +ℤ_invr, +ℤ-neg_ℤ_cancel}
-use Rattle.decimal.specs.declared.Value.{Value}
-use Rattle.decimal.specs.declared.Value.TheVariants.{Refused}
 use Rattle.decimal.specs.Exact.{exact, exactly, word_limit, largest, minus_from}
 use Rattle.decimal.specs.steps.Judged.{judged_of, total}
 use Rattle.decimal.proofs.Laws.{exact_large, ones_is}
@@ -32,31 +37,25 @@ add_in a d z s =
     sym (+ℤ_assoc (a +ℤ d) z s)
     ∙ ap (λ (x : ℤ). x +ℤ s) (+ℤ_assoc a d z ∙ ap (λ (x : ℤ). a +ℤ x) (+ℤ_comm d z) ∙ sym (+ℤ_assoc a z d))
 
-module _ (w : Wide) (x : ℕ) where
-  pub plus_room : size (record { high = w.high; low = w.low + x }) ≡ size w + x
+-- l is the lower word afterwards, and c what is carried or borrowed
+module _ (w : Wide) (x l c : ℕ) where
+  pub plus_wide : (b : Bool) → w.low < 2 ^ 64 → x < 2 ^ 64 → l ≡ (w.low + x) % 2 ^ 64 → FalseIff b (w.low + x < 2 ^ 64) → c ≡ bool_byte b
+      → (size (record { high = w.high + c; low = l }) ≡ size w + x) × (w.high ≤ w.high + c) × (w.high + c ≤ w.high + 1)
   unfolding size
-  plus_room = omega arith
+  plus_wide true h k e f g = let m : 2 ^ 64 ≤ w.low + x = ⊎_elim (λ (z : 2 ^ 64 ≤ w.low + x). z) (λ (z : w.low + x < 2 ^ 64). absurd (f z)) (le_or_lt (2 ^ 64) (w.low + x)) in (omega arith, omega arith, omega arith)
+  plus_wide false h k e f g = (omega arith, omega arith, omega arith)
 
-  pub plus_carry : w.low < 2 ^ 64 → largest - w.low < x
-      → size (record { high = w.high + 1; low = x - (largest - w.low) - 1 }) ≡ size w + x
+  pub less_wide : (b : Bool) → 1 ≤ w.high → w.low < 2 ^ 64 → x < 2 ^ 64 → l < 2 ^ 64 → (l + x) % 2 ^ 64 ≡ w.low → FalseIff b (x ≤ w.low) → c ≡ bool_byte b
+      → (size (record { high = w.high - c; low = l }) + x ≡ size w) × (w.high - c ≤ w.high) × (w.high ≤ w.high - c + 1)
   unfolding size
-  plus_carry l h = omega arith
+  less_wide true n h k j e f g =
+      let m : w.low < x = ⊎_elim (λ (z : x ≤ w.low). absurd (f z)) (λ (z : w.low < x). z) (le_or_lt x w.low) in
+      let q : l + x ≡ w.low + word_limit = omega arith in
+      let r : w.high * word_limit ≡ (w.high - c) * word_limit + word_limit = omega arith in
+      (omega (arith, q, r), omega arith, omega arith)
+  less_wide false n h k j e f g = (omega arith, omega arith, omega arith)
 
-  pub less_room : x ≤ w.low → size (record { high = w.high; low = w.low - x }) + x ≡ size w
-  unfolding size
-  less_room h = omega arith
-
-  pub less_borrow : 1 ≤ w.high → w.low < x → x < 2 ^ 64 → size (record { high = w.high - 1; low = largest - (x - w.low) + 1 }) + x ≡ size w
-  unfolding size
-  less_borrow h l b =
-      let e : w.high * word_limit ≡ (w.high - 1) * word_limit + word_limit = borrow w.high h in
-      let f : largest - (x - w.low) + 1 + x ≡ word_limit + w.low = omega arith in
-      rw e (omega (arith, f))
-    where
-      borrow : (k : ℕ) → 1 ≤ k → k * word_limit ≡ (k - 1) * word_limit + word_limit
-      borrow k g = omega arith
-
-pub ruleset word_laws = (plus_room, plus_carry, less_room, less_borrow)
+pub ruleset word_laws = (plus_wide, less_wide)
 
 module _ (n : ℕ) (w r : Wide) (x : ℕ) (s : ℤ) where
   held_plus : size r ≡ size w + x → held n w +ℤ (pos x +ℤ s) ≡ held n r +ℤ s
@@ -93,17 +92,17 @@ module _ (n : ℕ) (w : Wide) (l : w.low < 2 ^ 64) where
       let d : n * word_limit - size w ≡ largest - w.low + 1 = omega arith in
       under r (omega arith) (rw d (e ∙ ones_is true (largest - w.low + 1)))
 
-  pub far_up : (w.high ≡ n → ⊥) → n ≤ w.high → Refused 6 ≡ exactly (held n w) 1
+  pub far_up : (w.high ≡ n → ⊥) → n ≤ w.high → Err Fault.TooLarge ≡ exactly (held n w) 1
   unfolding size
-  far_up h k = over (Refused 6) (omega arith) (sym (exact_large false (size w - n * word_limit) 1 (omega arith)))
+  far_up h k = over (Err Fault.TooLarge) (omega arith) (sym (exact_large false (size w - n * word_limit) 1 (omega arith)))
 
-  pub far_down : w.high < n → (n - w.high ≡ 1 → ⊥) → Refused 6 ≡ exactly (held n w) 1
+  pub far_down : w.high < n → (n - w.high ≡ 1 → ⊥) → Err Fault.TooLarge ≡ exactly (held n w) 1
   unfolding size
-  far_down h k = under (Refused 6) (omega arith) (sym (exact_large true (n * word_limit - size w) 1 (omega arith)))
+  far_down h k = under (Err Fault.TooLarge) (omega arith) (sym (exact_large true (n * word_limit - size w) 1 (omega arith)))
 
-  pub just_down : w.high < n → n - w.high ≡ 1 → w.low ≤ 0 → Refused 6 ≡ exactly (held n w) 1
+  pub just_down : w.high < n → n - w.high ≡ 1 → w.low ≤ 0 → Err Fault.TooLarge ≡ exactly (held n w) 1
   unfolding size
-  just_down h o k = under (Refused 6) (omega arith) (sym (exact_large true (n * word_limit - size w) 1 (omega arith)))
+  just_down h o k = under (Err Fault.TooLarge) (omega arith) (sym (exact_large true (n * word_limit - size w) 1 (omega arith)))
 
 pub ruleset held_laws = (held_up, held_down, far_up, far_down, just_down)
 

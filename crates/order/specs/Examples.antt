@@ -2,18 +2,18 @@
 use Rattle.std.specs.Prelude.{ℕ, ◌+◌, List, [], ◌∷◌, ℤ}
 use Rattle.text.specs.Bytes.{bytes}
 use Rattle.row.specs.Row.{row_of, field_bytes}
-use Rattle.order.specs.declared.compare.Order.{Order}
-use Rattle.order.specs.declared.compare.Order.TheVariants.{Before, Same, After}
+use Rattle.std.specs.declared.cmp.Ordering.{Ordering}
+use Rattle.std.specs.declared.cmp.Ordering.TheVariants.{Less, Equal, Greater}
 
 -- two texts and their order
-unfoldable pub pairs : List (List ℕ × List ℕ × Order)
+unfoldable pub pairs : List (List ℕ × List ℕ × Ordering)
 pairs =
-    (bytes "", bytes "", Same)
-    ∷ (bytes "", bytes "A", Before)
-    ∷ (bytes "Assets:A:B", bytes "Assets:A", After)
-    ∷ (bytes "Assets:A:B", bytes "Assets:A-B", After)
-    ∷ (bytes "Z", bytes "a", Before)
-    ∷ (bytes "CHF", bytes "CHF", Same)
+    (bytes "", bytes "", Equal)
+    ∷ (bytes "", bytes "A", Less)
+    ∷ (bytes "Assets:A:B", bytes "Assets:A", Greater)
+    ∷ (bytes "Assets:A:B", bytes "Assets:A-B", Greater)
+    ∷ (bytes "Z", bytes "a", Less)
+    ∷ (bytes "CHF", bytes "CHF", Equal)
     ∷ []
 
 -- postings to the accounts A, at 0, and B, at 1, in the currency at 2, with their lines

@@ -1,8 +1,8 @@
 -- Things that say the same but for their values: how many they are, and the sum of their values.
-use Rattle.std.specs.Prelude.{ℕ, ◌+◌, Bool, true, false, cond, ◌&&◌, not, List, [], ◌∷◌, map, length}
-use Rattle.decimal.specs.declared.Value.{Value}
-use Rattle.decimal.specs.declared.Value.TheVariants.{Known, Refused}
-use Rattle.order.specs.declared.runs.Counted.{Counted}
+use Rattle.text.specs.Refusals.{refused_with}
+use Rattle.text.specs.declared.stop.Refused.{Refused}
+use Rattle.decimal.specs.Faults.{Value}
+use Rattle.std.specs.Prelude.{ℕ, ◌+◌, Bool, true, false, cond, ◌&&◌, not, List, [], ◌∷◌, map, length, Err, Ok, Result}
 use Rattle.order.specs.Order.{Said, by}
 use Rattle.order.specs.Sorted.{sorted}
 use Rattle.order.specs.Sums.{summed}
@@ -42,13 +42,13 @@ unfoldable pub items : {A : Type 0} → (A → Said) → List A → List (Item A
 items f xs = listed f (sorted (by f) xs)
 
 unfoldable pub is_known : Value → Bool
-is_known (Known d) = true
-is_known (Refused n) = false
+is_known (Ok d) = true
+is_known (Err n) = false
 
 -- so many items, with k before them; or the place of the first whose sum is too large
-unfoldable pub counted : {A : Type 0} → (A → ℕ) → ℕ → List (Item A) → Counted
-counted place k [] = Counted.Items k
-counted place k (i ∷ is) = cond (is_known i.sum) (counted place (k + 1) is) (Counted.Large (place i.first))
+unfoldable pub counted : {A : Type 0} → (A → ℕ) → ℕ → List (Item A) → Result ℕ Refused
+counted place k [] = Ok k
+counted place k (i ∷ is) = cond (is_known i.sum) (counted place (k + 1) is) (Err (refused_with 6 (place i.first) 0))
 
 -- ---- an item as it is listed, spans aside
 

@@ -3,25 +3,25 @@
 use Rattle.std.specs.Prelude.{ℕ, Bool, true, false, cond, List, [], ◌∷◌, ltb, ℤ}
 use Rattle.row.specs.declared.table.Row.{Row}
 use Rattle.access.specs.Spans.{span_text}
-use Rattle.order.specs.declared.compare.Order.{Order}
-use Rattle.order.specs.declared.compare.Order.TheVariants.{Before, Same, After}
+use Rattle.std.specs.declared.cmp.Ordering.{Ordering}
+use Rattle.std.specs.declared.cmp.Ordering.TheVariants.{Less, Equal, Greater}
 use Rattle.order.specs.Sums.{whole_from}
 
 infixr 40 ◌next◌
 -- the first order, or where it tells nothing the next
-unfoldable pub ◌next◌ : Order → Order → Order
-Before next o = Before
-Same next o = o
-After next o = After
+unfoldable pub ◌next◌ : Ordering → Ordering → Ordering
+Less next o = Less
+Equal next o = o
+Greater next o = Greater
 
-unfoldable pub numbers : ℕ → ℕ → Order
-numbers a b = cond (ltb a b) Before (cond (ltb b a) After Same)
+unfoldable pub numbers : ℕ → ℕ → Ordering
+numbers a b = cond (ltb a b) Less (cond (ltb b a) Greater Equal)
 
 -- the first byte that differs tells; a text that starts another comes before it
-unfoldable pub texts : List ℕ → List ℕ → Order
-texts [] [] = Same
-texts [] (c ∷ y) = Before
-texts (b ∷ x) [] = After
+unfoldable pub texts : List ℕ → List ℕ → Ordering
+texts [] [] = Equal
+texts [] (c ∷ y) = Less
+texts (b ∷ x) [] = Greater
 texts (b ∷ x) (c ∷ y) = numbers b c next texts x y
 
 -- what a record says, whatever the ledger in which it stands
@@ -42,14 +42,14 @@ said s r =
     }
 
 -- the value does not count
-unfoldable pub order_of : Said → Said → Order
+unfoldable pub order_of : Said → Said → Ordering
 order_of a b = numbers a.kind b.kind next (texts a.account b.account next texts a.currency b.currency)
 
 -- whether one may stand before another
-unfoldable pub up_to : Order → Bool
-up_to Before = true
-up_to Same = true
-up_to After = false
+unfoldable pub up_to : Ordering → Bool
+up_to Less = true
+up_to Equal = true
+up_to Greater = false
 
 unfoldable pub may_precede : Said → Said → Bool
 may_precede a b = up_to (order_of a b)

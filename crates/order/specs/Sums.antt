@@ -1,7 +1,7 @@
 -- Exact sums of values.
+use Rattle.decimal.specs.Faults.{Value}
 use Rattle.std.specs.Prelude.{ℕ, ◌-◌, cond, List, [], ◌∷◌, ltb, ℤ, pos, neg_ℤ, ◌+ℤ◌}
 use Rattle.decimal.specs.Exact.{exactly, word_limit, minus_from}
-use Rattle.decimal.specs.declared.Value.{Value}
 
 -- the whole number that eight bytes are, two's complement
 unfoldable pub whole_from : ℕ → ℤ

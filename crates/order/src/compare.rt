@@ -10,15 +10,9 @@ use crate::record::RECORD;
 use access::span;
 use row::table;
 use row::table::Row;
+use std::cmp::Ordering;
 
-#[derive(Clone, Copy)]
-pub enum Order {
-    Before,
-    Same,
-    After,
-}
-
-// Whether eight bytes of two texts are the same: one test with no way out, so that the compiler looks at them together.
+// Whether eight bytes of two texts are the same: one test with no way out, so that the compiler vectorises it.
 fn eight_same(x: &[u8], y: &[u8], i: usize) -> bool
     requires { (i + 8 ≤ length x.now) × (i + 8 ≤ length y.now) }
     ensures { result ≡ true → texts (drop i x.now) (drop i y.now) ≡ texts (drop (i + 8) x.now) (drop (i + 8) y.now) }
@@ -35,9 +29,11 @@ fn eight_same(x: &[u8], y: &[u8], i: usize) -> bool
 
 // A place up to which two texts are the same, eight bytes at a time.
 fn same_front(x: &[u8], y: &[u8]) -> usize
-    ensures { texts x.now y.now ≡ texts (drop result x.now) (drop result y.now) }
+    ensures same { texts x.now y.now ≡ texts (drop result x.now) (drop result y.now) }
+    ensures within { (result ≤ length x.now) × (result ≤ length y.now) }
 {
     let mut i = 0;
+    // No `for`: a turn passes eight bytes, and where they end is the answer.
     while i + 8 <= x.len() {
         if y.len() < i + 8 {
             return i;
@@ -52,32 +48,24 @@ fn same_front(x: &[u8], y: &[u8]) -> usize
 }
 
 // The order of two texts by their bytes: one that starts another comes before it.
-pub fn text_order(x: &[u8], y: &[u8]) -> Order
+pub fn text_order(x: &[u8], y: &[u8]) -> Ordering
     ensures { result ≡ texts x.now y.now }
 {
-    let mut i = same_front(x, y);
-    while i < x.len() {
+    let from = same_front(x, y);
+    for i in from..x.len() {
         if y.len() <= i {
-            return Order::After;
+            return Ordering::Greater;
         }
-        let b = x[i];
-        let c = y[i];
-        if b < c {
-            return Order::Before;
+        let o = x[i].cmp(&y[i]);
+        if o.is_ne() {
+            return o;
         }
-        if c < b {
-            return Order::After;
-        }
-        i += 1;
     }
-    if i < y.len() {
-        return Order::Before;
-    }
-    Order::Same
+    x.len().cmp(&y.len())
 }
 
 // The order of the texts of two spans of a ledger.
-fn span_order(s: &[u8], a: usize, b: usize, c: usize, d: usize) -> Order
+fn span_order(s: &[u8], a: usize, b: usize, c: usize, d: usize) -> Ordering
     ensures { result ≡ texts (span_text s.now a b) (span_text s.now c d) }
 {
     let x = span::text_of(s, a, b);
@@ -94,23 +82,15 @@ pub fn row_at(t: &[u8], i: usize) -> Row
     table::fields_in(&t[at..at + RECORD])
 }
 
-// The order of two records of a buffer, by their numbers.
-pub fn record_order(s: &[u8], t: &[u8], i: usize, j: usize) -> Order
+// The order of two records of a buffer, by their numbers: not `cmp` of the rows, for spans are compared by their texts.
+pub fn record_order(s: &[u8], t: &[u8], i: usize, j: usize) -> Ordering
     requires { (i * record_width + record_width ≤ length t.now) × (j * record_width + record_width ≤ length t.now) }
     ensures { result ≡ order_of (said_in s.now (record_at t.now i)) (said_in s.now (record_at t.now j)) }
 {
     let a = row_at(t, i);
     let b = row_at(t, j);
-    if a.kind < b.kind {
-        return Order::Before;
-    }
-    if b.kind < a.kind {
-        return Order::After;
-    }
-    let o = span_order(s, a.start, a.end, b.start, b.end);
-    match o {
-        Order::Before => Order::Before,
-        Order::After => Order::After,
-        Order::Same => span_order(s, a.p, a.q, b.p, b.q),
-    }
+    a.kind
+        .cmp(&b.kind)
+        .then_with(|| span_order(s, a.start, a.end, b.start, b.end))
+        .then_with(|| span_order(s, a.p, a.q, b.p, b.q))
 }

@@ -7,10 +7,10 @@ ghost use Rattle.order.specs.Order.{by};
 ghost use Rattle.order.specs.Groups.{listed, counted};
 ghost use Rattle.order.specs.steps.Runs.{run_end};
 
-use crate::compare::Order;
 use crate::record::RECORD;
 use crate::{compare, sum};
-use decimal::Value;
+use decimal::{Fault, Value};
+use text::stop::{Refused, refused_at};
 
 // Up to which record a run goes, and the sum of its values.
 #[derive(Clone, Copy)]
@@ -26,22 +26,12 @@ fn run_end(s: &[u8], t: &[u8], i: usize) -> usize
     ensures within { (i < result) × (result ≤ record_room t.now) }
 {
     let n = t.len() / RECORD;
-    let mut j = i + 1;
-    while j < n {
-        let o = compare::record_order(s, t, i, j);
-        match o {
-            Order::Before => {
-                return j;
-            }
-            Order::After => {
-                return j;
-            }
-            Order::Same => {
-                j += 1;
-            }
+    for j in i + 1..n {
+        if compare::record_order(s, t, i, j).is_ne() {
+            return j;
         }
     }
-    j
+    n
 }
 
 // The run that starts with record i.
@@ -58,34 +48,22 @@ pub fn run_at(s: &[u8], t: &[u8], i: usize) -> Run
     }
 }
 
-// So many items; or the start of the first item whose sum is too large.
-#[derive(Clone, Copy)]
-pub enum Counted {
-    Items(usize),
-    Large(usize),
-}
-
-// The items of a sorted buffer, one for each run.
-pub fn count_runs(s: &[u8], t: &[u8]) -> Counted
+// How many items a sorted buffer has, one for each run; 6, at its start, for the first whose sum is too large.
+pub fn count_runs(s: &[u8], t: &[u8]) -> Result<usize, Refused>
     requires { Ordered (by (said_in s.now)) (records_of t.now) }
     ensures { result ≡ counted (λ b. (fields_in b).start) 0 (listed (said_in s.now) (records_of t.now)) }
 {
     let n = t.len() / RECORD;
     let mut i = 0;
     let mut k = 0;
+    // A turn takes a whole run.
     while i < n {
-        let r = run_at(s, t, i);
-        let sum = r.sum;
-        match sum {
-            Value::Refused(_) => {
-                let first = compare::row_at(t, i);
-                return Counted::Large(first.start);
-            }
-            Value::Known(_) => {
-                i = r.end;
-                k += 1;
-            }
+        let run = run_at(s, t, i);
+        if run.sum.is_err() {
+            return Err(refused_at(usize::from(Fault::TooLarge), compare::row_at(t, i).start));
         }
+        i = run.end;
+        k += 1;
     }
-    Counted::Items(k)
+    Ok(k)
 }

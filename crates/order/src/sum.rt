@@ -8,7 +8,7 @@ ghost use Rattle.order.specs.steps.Wide.{size, held};
 
 use crate::compare;
 use crate::record::RECORD;
-use decimal::Value;
+use decimal::{Fault, Value};
 
 // A whole number in two words. The upper one starts at the number of records, so that it never falls below zero.
 #[derive(Clone, Copy)]
@@ -19,23 +19,16 @@ struct Wide {
 
 const HALF: u64 = 9_223_372_036_854_775_808;
 
-const LAST: u64 = 18_446_744_073_709_551_615;
+const LAST: u64 = u64::MAX;
 
 fn plus(w: Wide, x: u64) -> Wide
     requires { w.high ≤ 18446744073709551614 }
     ensures { (size result ≡ size w + x) × (w.high ≤ result.high) × (result.high ≤ w.high + 1) }
 {
-    let room = LAST - w.low;
-    if x <= room {
-        Wide {
-            high: w.high,
-            low: w.low + x,
-        }
-    } else {
-        Wide {
-            high: w.high + 1,
-            low: x - room - 1,
-        }
+    let (low, carry) = w.low.overflowing_add(x);
+    Wide {
+        high: w.high + u64::from(carry),
+        low,
     }
 }
 
@@ -43,16 +36,10 @@ fn less(w: Wide, x: u64) -> Wide
     requires { 1 ≤ w.high }
     ensures { (size result + x ≡ size w) × (result.high ≤ w.high) × (w.high ≤ result.high + 1) }
 {
-    if x <= w.low {
-        Wide {
-            high: w.high,
-            low: w.low - x,
-        }
-    } else {
-        Wide {
-            high: w.high - 1,
-            low: LAST - (x - w.low) + 1,
-        }
+    let (low, borrow) = w.low.overflowing_sub(x);
+    Wide {
+        high: w.high - u64::from(borrow),
+        low,
     }
 }
 
@@ -64,20 +51,10 @@ fn judged(w: Wide, n: u64) -> Value
     if w.high == n {
         return decimal::judged(false, low, 0);
     }
-    if w.high < n {
-        if n - w.high == 1 {
-            if 0 < low {
-                return decimal::judged(true, LAST - low + 1, 0);
-            }
-        }
+    if w.high < n && n - w.high == 1 && 0 < low {
+        return decimal::judged(true, LAST - low + 1, 0);
     }
-    Value::Refused(6)
-}
-
-fn long(n: usize) -> u64
-    ensures { result ≡ n }
-{
-    n as u64
+    Err(Fault::TooLarge)
 }
 
 // The sum of the values of all records of a buffer.
@@ -85,22 +62,18 @@ pub fn sum(t: &[u8]) -> Value
     ensures { result ≡ summed (map (λ y. whole_from (fields_in y).bits) (records_of t.now)) }
 {
     let n = t.len() / RECORD;
-    let count = long(n);
+    let count = n as u64;
     let mut w = Wide {
         high: count,
         low: 0,
     };
-    let mut i = 0;
-    while i < n {
-        let r = compare::row_at(t, i);
-        let bits = long(r.bits);
+    for i in 0..n {
+        let bits = compare::row_at(t, i).bits as u64;
         if bits < HALF {
             w = plus(w, bits);
-            i += 1;
-            continue;
+        } else {
+            w = less(w, LAST - bits + 1);
         }
-        w = less(w, LAST - bits + 1);
-        i += 1;
     }
     judged(w, count)
 }

@@ -4,6 +4,7 @@
 --     refuses    of a refusal nothing is said
 --     reads      what ends before m is read the same
 --     crosses    what else is read ends past n, and a string of its rows crosses n; the other misses, where t is true
+use Rattle.text.specs.declared.stop.Cause.{Cause}
 use Prim.Native.Nat.{ℕ, zero, suc, ◌+◌, ◌≤◌, ◌<◌}
 use native.Mathlib.Omega.{arith}
 use mathlib.Core.Path.{◌≡◌, refl, ◌∙◌, ap}
@@ -59,7 +60,7 @@ Lost false b = Unit {0}
 
 pub data Agree {A : Type 0} (w : A → List Detail) (n m : ℕ) (t : Bool) : Ans A → Ans A → Type 0 where
   misses : Agree w n m t Miss Miss
-  refuses : {b : Ans A} (k p : ℕ) → Agree w n m t (Hard k p) b
+  refuses : {b : Ans A} (k : Cause) (p : ℕ) → Agree w n m t (Hard k p) b
   reads : (j : ℕ) (x : A) → j < m → Agree w n m t (To j x) (To j x)
   crosses : {b : Ans A} (j : ℕ) (x : A) → n < j → torn n (w x) ≡ true → Lost t b → Agree w n m t (To j x) b
 
@@ -87,7 +88,7 @@ module _ {A : Type 0} {w : A → List Detail} {n m : ℕ} {t : Bool} where
   agree_below k h (reads j x l) = reads j x (omega arith)
   agree_below k h (crosses j x l e o) = crosses j x l e o
 
-  pub must_agree : (i at : ℕ) {a b : Ans A} → Agree w n m t a b → Agree w n m false (must i at a) (must i at b)
+  pub must_agree : (i : Cause) (at : ℕ) {a b : Ans A} → Agree w n m t a b → Agree w n m false (must i at a) (must i at b)
   unfolding must
   must_agree i at misses = refuses i at
   must_agree i at (refuses k p) = refuses k p

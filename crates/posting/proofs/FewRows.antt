@@ -1,4 +1,5 @@
 -- How many rows a posting makes at most: one of the account, one of the amount, two of the cost, one of the price.
+use Rattle.text.specs.declared.stop.Cause.{Cause}
 use Prim.Native.Nat.{ℕ, ◌+◌, ◌≤◌}
 use native.Mathlib.Omega.{arith}
 use mathlib.Core.Path.{◌≡◌, subst}
@@ -37,7 +38,7 @@ module _ {A : Type 0} {w : A → List Detail} (n : ℕ) where
   miss_few : Most w n Miss
   miss_few = record { rows = tt }
 
-  hard_few : (k p : ℕ) → Most w n (Hard k p)
+  hard_few : (k : Cause) (p : ℕ) → Most w n (Hard k p)
   hard_few k p = record { rows = tt }
 
   else_few : (a b : Ans A) → Most w n a → Most w n b → Most w n (a else b)

@@ -1,4 +1,6 @@
 -- Lines that are neither metadata nor empty: after blanks a capital or a digit stands.
+use Rattle.text.specs.declared.stop.Stop.{Stop}
+use Rattle.std.specs.Prelude.{None, Some, Err, Option}
 use Prim.Native.Nat.{ℕ, ◌≤◌, ◌<◌}
 use native.Mathlib.Omega.{arith}
 use mathlib.Core.Path.{◌≡◌, refl, sym, ◌∙◌}
@@ -12,12 +14,10 @@ use Rattle.text.specs.Run.{blanks}
 use Rattle.text.specs.Answer.{Miss, ◌and◌, ◌else◌}
 use Rattle.text.specs.Leaves.{token, gap, empty_line}
 use Rattle.text.specs.Lines.{gap_at, comment_end, eol_at, line_end_at, empty_at}
-use Rattle.text.specs.declared.Read.{Read}
 use Rattle.text.proofs.Steps.{byte_within}
 use Rattle.text.proofs.TestLaws.{and_left, and_right}
 use Rattle.row.specs.steps.Writing.{Did}
 use Rattle.row.specs.declared.writer.Out.{Out}
-use Rattle.row.specs.declared.writer.Ran.{Ran}
 use Rattle.row.proofs.DidLaws.{did_miss}
 use Rattle.posting.specs.Metadata.{key_at, key, meta_line, meta_step}
 use Rattle.posting.specs.steps.Lines.{value_end, gap_value, colon_value, keyed_line}
@@ -50,24 +50,24 @@ module _ (s : List ℕ) (at : ℕ) (h : starts_part (get_or s (blanks s at) 0) �
 
   other_key : keyed_line s (blanks s at) ≡ Miss
   unfolding keyed_line key key_at
-  other_key = rw (part_not_small (get_or s (blanks s at) 0) bounds.1) (token_miss Read.Miss Read.Miss refl _ refl)
+  other_key = rw (part_not_small (get_or s (blanks s at) 0) bounds.1) (token_miss None None refl _ refl)
 
   other_line : meta_line s at ≡ Miss
   unfolding meta_line gap gap_at keyed_line colon_value gap_value value_end
   other_line = go (ltb at (blanks s at))
     where
-      go : (t : Bool) → (token (cond t (Read.To (blanks s at)) Read.Miss) and keyed_line s) ≡ Miss
-      go true = token_to (Read.To (blanks s at)) (Read.To (blanks s at)) refl (keyed_line s) (blanks s at) refl ∙ other_key
-      go false = token_miss Read.Miss Read.Miss refl (keyed_line s) refl
+      go : (t : Bool) → (token (cond t (Some (blanks s at)) None) and keyed_line s) ≡ Miss
+      go true = token_to (Some (blanks s at)) (Some (blanks s at)) refl (keyed_line s) (blanks s at) refl ∙ other_key
+      go false = token_miss None None refl (keyed_line s) refl
 
-  other_empty : empty_at s at ≡ Read.Miss
+  other_empty : empty_at s at ≡ None
   unfolding empty_at line_end_at comment_end eol_at
   other_empty =
       let b = bounds in
       let c = get_or s (blanks s at) 0 in
       rw (ne_eqb c 59 b.2, ne_eqb c 10 (λ q. omega arith), ne_eqb c 13 (λ q. omega arith), lt-leb (length s) (blanks s at) inside) (go (ltb at (length s)))
     where
-      go : (t : Bool) → cond t Read.Miss Read.Miss ≡ Read.Miss
+      go : (t : Bool) → ◌≡◌ {A = Option ℕ} (cond t None None) None
       go true = refl
       go false = refl
 
@@ -76,9 +76,5 @@ module _ (s : List ℕ) (at : ℕ) (h : starts_part (get_or s (blanks s at) 0) �
   other_step = rw (other_line, other_empty)
 
 pub step_other : (base : ℕ) (s : List ℕ) (at : ℕ) (o : Out) (t : List ℕ) (b : Bool) → b ≡ starts_part (get_or s (blanks s at) 0) → b ≡ true
-    → Did base (meta_step s at) o t t Ran.Miss
+    → Did base (meta_step s at) o t t (Err Stop.Miss)
 step_other base s at o t b e h = did_miss base o t (meta_step s at) (other_step s at (sym e ∙ h))
-
--- what the code reads: p is past the blanks, c the byte there
-pub other_byte : (s : List ℕ) (at p c : ℕ) (b : Bool) → p ≡ blanks s at → c ≡ get_or s p 0 → b ≡ starts_part c → b ≡ starts_part (get_or s (blanks s at) 0)
-other_byte s at p c b e f g = rw (← e, ← f) g

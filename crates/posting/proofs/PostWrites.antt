@@ -1,4 +1,9 @@
 -- A posting as it is written, each answer from what the code knows where it gives it.
+use Rattle.text.proofs.TestLaws.{tried}
+use Rattle.text.specs.steps.Told.{Reading}
+use Rattle.text.specs.declared.stop.Cause.{Cause}
+use Rattle.text.specs.declared.stop.Stop.{Stop}
+use Rattle.std.specs.Prelude.{None, Option, Some, Err, Ok, Result}
 use Prim.Native.Nat.{ℕ, ◌+◌, ◌≤◌}
 use native.Mathlib.Omega.{arith}
 use mathlib.Core.Path.{◌≡◌, refl, ◌∙◌, ap}
@@ -9,23 +14,18 @@ use Rattle.text.specs.Answer.{Ans, To, Miss, ◌then◌, ◌else◌, ◌and◌, 
 use Rattle.text.specs.Leaves.{token, gap, line_end}
 use Rattle.text.specs.steps.Accounts.{account_at}
 use Rattle.text.specs.Lines.{gap_at, line_end_at}
-use Rattle.text.specs.declared.Read.{Read}
-use Rattle.text.specs.declared.account.AccountRead.{AccountRead}
 use Rattle.text.specs.Permitted.{size_limit}
-use Rattle.text.specs.Refusals.{second_part_number}
 use Rattle.amount.specs.Details as details
 use Rattle.amount.specs.Amounts.{amount}
 use Rattle.amount.specs.steps.Answers.{one_of}
 use Rattle.amount.specs.declared.detail.Detail.{Detail}
-use Rattle.amount.specs.declared.detail.One.{One}
 use Rattle.row.specs.steps.Pouring.{pour_at}
 use Rattle.row.specs.steps.Writing.{laid, noted, Did, Room, Writable}
 use Rattle.row.specs.declared.writer.Out.{Out}
-use Rattle.row.specs.declared.writer.Ran.{Ran}
 use Rattle.row.proofs.OutLaws.{rows_noted, rows_outs, wrote_one, written}
 use Rattle.row.proofs.SureLaws.{Sure, sure_and, sure_more, sure_maybe}
-use Rattle.row.proofs.DidLaws.{did_none, did_more, maybe_sure, was_read, and_read, and_miss, and_hard}
-use Rattle.row.proofs.TokenLaws.{token_read, token_end, token_end_miss, token_miss as token-off, account_read, account_miss, account_hard}
+use Rattle.row.proofs.DidLaws.{did_none, did_more, maybe_sure, was_read, and_read, and_stop}
+use Rattle.row.proofs.TokenLaws.{token_read, token_end, token_end_miss, token_miss as token-off, account_read, account_stop}
 use Rattle.posting.specs.Postings.{is_flag, flag, posting_flag, units, posting_line}
 use Rattle.posting.specs.steps.Lots.{optional_price, optional_cost}
 use Rattle.posting.specs.steps.Parts.{flag_gap, costs_of, units_of, units_end, holder_of, flagged_of}
@@ -43,25 +43,21 @@ costs_sure : (s : List ℕ) (at : ℕ) → Sure (costs_of s at)
 unfolding costs_of optional_cost
 costs_sure s at = sure_and (optional_price s) (sure_maybe at _) (λ e. price_sure s e)
 
-module _ (base : ℕ) (s : List ℕ) (at : ℕ) (o : Out) (t v : List ℕ) (x : Ran) (d : Did base (optional_cost s at) o t v x) where
-  pub costs_room : (e : ℕ) (m : Out) → x ≡ Ran.To e m → base ≤ size_limit → Room 4 o → Writable 1 base m
+module _ (base : ℕ) (s : List ℕ) (at : ℕ) (o : Out) (t v : List ℕ) (x : Reading Out) (d : Did base (optional_cost s at) o t v x) where
+  pub costs_room : (e : ℕ) (m : Out) → x ≡ Ok (e, m) → base ≤ size_limit → Room 4 o → Writable 1 base m
   costs_room e m q h l =
       let z = was_read base o t v x (optional_cost s at) e m d q in
       (h, omega (arith, ap (λ (y : Out). y.rows) z.2.0, rows_outs z.0 o, few_at 2 e z.0 (optional_cost s at) (optional_cost_few s at) z.1))
 
-  pub costs_read : (e : ℕ) (m : Out) (u : List ℕ) (r : Ran) → x ≡ Ran.To e m → Did base (optional_price s e) m v u r → Did base (costs_of s at) o t u r
+  pub costs_read : (e : ℕ) (m : Out) (u : List ℕ) (r : Reading Out) → x ≡ Ok (e, m) → Did base (optional_price s e) m v u r → Did base (costs_of s at) o t u r
   unfolding costs_of
   costs_read e m u r q h = and_read base o t v x (optional_cost s at) (optional_price s) d e m u r q h
 
-  pub costs_miss : x ≡ Ran.Miss → Did base (costs_of s at) o t v Ran.Miss
+  pub costs_stop : (stop : Stop) → x ≡ Err stop → Did base (costs_of s at) o t v (Err stop)
   unfolding costs_of
-  costs_miss q = and_miss base o t v x (optional_cost s at) (optional_price s) d q
+  costs_stop stop q = and_stop base o t v x (optional_cost s at) (optional_price s) d stop q
 
-  pub costs_hard : (k p : ℕ) (u : List ℕ) → x ≡ Ran.Hard k p → Did base (costs_of s at) o t u (Ran.Hard k p)
-  unfolding costs_of
-  costs_hard k p u q = and_hard base o t v x (optional_cost s at) (optional_price s) d k p u q
-
-pub ruleset costs_laws = (costs_room, costs_read, costs_miss, costs_hard)
+pub ruleset costs_laws = (costs_room, costs_read, costs_stop)
 
 -- ---- optional units: g is the gap's answer, x the amount's
 
@@ -74,24 +70,24 @@ module _ (s : List ℕ) where
   unfolding units_of units gap costs_of optional_cost optional_price
   units_is at = refl
 
-module _ (base : ℕ) (s : List ℕ) (at : ℕ) (o : Out) (t : List ℕ) (g : Read) (p : g ≡ gap_at s at) where
-  pub units_bare : g ≡ Read.Miss → Did base (units_of s at) o t t (Ran.To at o)
+module _ (base : ℕ) (s : List ℕ) (at : ℕ) (o : Out) (t : List ℕ) (g : Option ℕ) (p : g ≡ gap_at s at) where
+  pub units_bare : g ≡ None → Did base (units_of s at) o t t (Ok (at, o))
   unfolding maybe
   units_bare q = rw (units_is s at, token_miss g (gap_at s at) p (amounted s) q) (did_none base o t at)
 
-  module _ (j : ℕ) (q : g ≡ Read.To j) (x : One) (v : x ≡ one_of (amount 26 s j)) where
+  module _ (j : ℕ) (q : g ≡ Some j) (x : Reading Detail) (v : x ≡ one_of (amount 26 s j)) where
     units_on : units_of s at ≡ maybe at (amount 26 s j and costs_of s)
     units_on = units_is s at ∙ ap (maybe at) (token_to g (gap_at s at) p (amounted s) j q)
 
-    pub units_none : x ≡ One.Miss → Did base (units_of s at) o t t (Ran.To at o)
+    pub units_none : x ≡ (Err Stop.Miss) → Did base (units_of s at) o t t (Ok (at, o))
     unfolding maybe ◌and◌
-    units_none k = rw (units_on, one_miss (amount 26 s j) x v k) (did_none base o t at)
+    units_none k = rw (units_on, one_miss x (amount_row 26 s j (omega arith)) v k) (did_none base o t at)
 
-    pub units_hard : (n i : ℕ) (u : List ℕ) → x ≡ One.Hard n i → Did base (units_of s at) o t u (Ran.Hard n i)
+    pub units_hard : (n : Cause) (i : ℕ) (u : List ℕ) → x ≡ Err (Stop.Hard n i) → Did base (units_of s at) o t u (Err (Stop.Hard n i))
     unfolding maybe ◌and◌
     units_hard n i u k = rw (units_on, one_hard (amount 26 s j) x n i v k) refl
 
-    pub units_read : (e : ℕ) (d : Detail) (m : Out) (w u : List ℕ) (r : Ran) → x ≡ One.Read e d → m ≡ noted o d → w ≡ pour_at o.rows (laid base d ∷ []) t
+    pub units_read : (e : ℕ) (d : Detail) (m : Out) (w u : List ℕ) (r : Reading Out) → x ≡ Ok (e, d) → m ≡ noted o d → w ≡ pour_at o.rows (laid base d ∷ []) t
         → Did base (costs_of s e) m w u r → Did base (units_of s at) o t u r
     unfolding ◌and◌
     units_read e d m w u r k f h z =
@@ -111,34 +107,30 @@ pub ruleset units_laws = (units_bare, units_none, units_hard, units_read, units_
 
 -- ---- units, line end: x is the answer of the units, l that of the line end
 
-module _ (base : ℕ) (s : List ℕ) (at : ℕ) (o : Out) (t : List ℕ) (l : Read) (p : l ≡ line_end_at s at) where
-  line_to : (f : ℕ) → l ≡ Read.To f → Did base (line_end s at) o t t (Ran.To f o)
+module _ (base : ℕ) (s : List ℕ) (at : ℕ) (o : Out) (t : List ℕ) (l : Option ℕ) (p : l ≡ line_end_at s at) where
+  line_to : (f : ℕ) → l ≡ Some f → Did base (line_end s at) o t t (Ok (f, o))
   unfolding line_end
   line_to f q = token_end base o t l (line_end_at s at) p f q
 
-  line_no : l ≡ Read.Miss → Did base (line_end s at) o t t Ran.Miss
+  line_no : l ≡ None → Did base (line_end s at) o t t (Err Stop.Miss)
   unfolding line_end
   line_no q = token_end_miss base o t l (line_end_at s at) p q
 
-module _ (base : ℕ) (s : List ℕ) (at : ℕ) (o : Out) (t v : List ℕ) (x : Ran) (d : Did base (units_of s at) o t v x) where
-  module _ (e : ℕ) (m : Out) (q : x ≡ Ran.To e m) (l : Read) (w : l ≡ line_end_at s e) where
-    pub ended_read : (f : ℕ) → l ≡ Read.To f → Did base (units_end s at) o t v (Ran.To f m)
+module _ (base : ℕ) (s : List ℕ) (at : ℕ) (o : Out) (t v : List ℕ) (x : Reading Out) (d : Did base (units_of s at) o t v x) where
+  module _ (e : ℕ) (m : Out) (q : x ≡ Ok (e, m)) (l : Option ℕ) (w : l ≡ line_end_at s e) where
+    pub ended_read : (f : ℕ) → l ≡ Some f → Did base (units_end s at) o t v (Ok (f, m))
     unfolding units_end
-    ended_read f k = and_read base o t v x (units_of s at) (line_end s) d e m v (Ran.To f m) q (line_to base s e m v l w f k)
+    ended_read f k = and_read base o t v x (units_of s at) (line_end s) d e m v (Ok (f, m)) q (line_to base s e m v l w f k)
 
-    pub ended_open : l ≡ Read.Miss → Did base (units_end s at) o t v Ran.Miss
+    pub ended_open : l ≡ None → Did base (units_end s at) o t v (Err Stop.Miss)
     unfolding units_end
-    ended_open k = and_read base o t v x (units_of s at) (line_end s) d e m v Ran.Miss q (line_no base s e m v l w k)
+    ended_open k = and_read base o t v x (units_of s at) (line_end s) d e m v (Err Stop.Miss) q (line_no base s e m v l w k)
 
-  pub ended_miss : x ≡ Ran.Miss → Did base (units_end s at) o t v Ran.Miss
+  pub ended_stop : (stop : Stop) → x ≡ Err stop → Did base (units_end s at) o t v (Err stop)
   unfolding units_end
-  ended_miss q = and_miss base o t v x (units_of s at) (line_end s) d q
+  ended_stop stop q = and_stop base o t v x (units_of s at) (line_end s) d stop q
 
-  pub ended_hard : (k p : ℕ) → x ≡ Ran.Hard k p → Did base (units_end s at) o t v (Ran.Hard k p)
-  unfolding units_end
-  ended_hard k p q = and_hard base o t v x (units_of s at) (line_end s) d k p v q
-
-pub ruleset ended_laws = (ended_read, ended_open, ended_miss, ended_hard)
+pub ruleset ended_laws = (tried, ended_read, ended_open, ended_stop)
 
 -- ---- account, units, line end: x is the account's answer
 
@@ -147,50 +139,46 @@ module _ (base flag : ℕ) (s : List ℕ) (at : ℕ) (o : Out) (t : List ℕ) wh
   abbrev held : ℕ → details.Rows
   held e = To e (details.named 33 at e flag 0 ∷ []) and units_end s
 
-  module _ (x : AccountRead) (p : x ≡ account_at s at) where
-    pub holder_read : (e : ℕ) (z : Detail) (m : Out) (w u : List ℕ) (r : Ran) → x ≡ AccountRead.To e → z ≡ details.named 33 at e flag 0 → m ≡ noted o z
+  module _ (x : Result ℕ Stop) (p : x ≡ account_at s at) where
+    pub holder_read : (e : ℕ) (z : Detail) (m : Out) (w u : List ℕ) (r : Reading Out) → x ≡ Ok e → z ≡ details.named 33 at e flag 0 → m ≡ noted o z
         → w ≡ pour_at o.rows (laid base z ∷ []) t → Did base (units_end s e) m w u r → Did base (holder_of flag s at) o t u r
     unfolding holder_of ◌and◌
     holder_read e z m w u r q k f g h =
         account_read base o t s at x p held e u r q
         (rw (← k) (did_more base o t (z ∷ []) (units_end s e) m w u r (written base o t (z ∷ []) m w (wrote_one base o t z m w f g)) h))
 
-    pub holder_miss : x ≡ AccountRead.Miss → Did base (holder_of flag s at) o t t Ran.Miss
+    pub holder_stop : (stop : Stop) → x ≡ Err stop → Did base (holder_of flag s at) o t t (Err stop)
     unfolding holder_of
-    holder_miss q = account_miss base o t s at x p held q
+    holder_stop stop q = account_stop base o t s at x p held stop q
 
-    pub holder_hard : (u : List ℕ) → x ≡ AccountRead.Hard → Did base (holder_of flag s at) o t u (Ran.Hard second_part_number at)
-    unfolding holder_of
-    holder_hard u q = account_hard base o t s at x p held u q
-
-pub ruleset holder_laws = (holder_room, holder_read, holder_miss, holder_hard)
+pub ruleset holder_laws = (holder_room, holder_read, holder_stop)
 
 -- ---- optionally flag and gap: x is their answer
 
 module _ (s : List ℕ) (at : ℕ) where
   -- what the code's answer says of the rule's
-  abbrev flagged : Read → Ans ℕ
-  flagged (Read.To j) = To j (get_or s at 0)
-  flagged Read.Miss = To at 0
+  abbrev flagged : Option ℕ → Ans ℕ
+  flagged (Some j) = To j (get_or s at 0)
+  flagged None = To at 0
 
   flag_is : posting_flag s at ≡ flagged (flag_gap s at)
   unfolding posting_flag flag gap flag_gap token ◌then◌ ◌else◌
   flag_is = go (is_flag (get_or s at 0))
     where
-      on : (r : Read) → ((token {A = ℕ} r then λ g _. To g (get_or s at 0)) else To at 0) ≡ flagged r
-      on (Read.To j) = refl
-      on Read.Miss = refl
+      on : (r : Option ℕ) → ((token {A = ℕ} r then λ g _. To g (get_or s at 0)) else To at 0) ≡ flagged r
+      on (Some j) = refl
+      on None = refl
 
-      go : (b : Bool) → (((cond b (To (at + 1) []) Miss) then λ f (_ : List Detail). token {A = ℕ} (gap_at s f) then λ g _. To g (get_or s at 0)) else To at 0) ≡ flagged (cond b (gap_at s (at + 1)) Read.Miss)
+      go : (b : Bool) → (((cond b (To (at + 1) []) Miss) then λ f (_ : List Detail). token {A = ℕ} (gap_at s f) then λ g _. To g (get_or s at 0)) else To at 0) ≡ flagged (cond b (gap_at s (at + 1)) None)
       go true = on (gap_at s (at + 1))
       go false = refl
 
-  module _ (base : ℕ) (o : Out) (t : List ℕ) (x : Read) (p : x ≡ flag_gap s at) (u : List ℕ) (r : Ran) where
-    pub flagged_read : (j c b : ℕ) → x ≡ Read.To j → c ≡ get_or s at 0 → b ≡ c → Did base (holder_of b s j) o t u r → Did base (flagged_of s at) o t u r
+  module _ (base : ℕ) (o : Out) (t : List ℕ) (x : Option ℕ) (p : x ≡ flag_gap s at) (u : List ℕ) (r : Reading Out) where
+    pub flagged_read : (j c b : ℕ) → x ≡ Some j → c ≡ get_or s at 0 → b ≡ c → Did base (holder_of b s j) o t u r → Did base (flagged_of s at) o t u r
     unfolding flagged_of ◌then◌
     flagged_read j c b q k l h = rw (flag_is, ← p, q, ← k, ← l) h
 
-    pub flagged_plain : x ≡ Read.Miss → Did base (holder_of 0 s at) o t u r → Did base (flagged_of s at) o t u r
+    pub flagged_plain : x ≡ None → Did base (holder_of 0 s at) o t u r → Did base (flagged_of s at) o t u r
     unfolding flagged_of ◌then◌
     flagged_plain q h = rw (flag_is, ← p, q) h
 
@@ -198,15 +186,15 @@ pub ruleset flagged_laws = (flagged_read, flagged_plain)
 
 -- ---- gap, and what follows it: g is the gap's answer
 
-module _ (base : ℕ) (s : List ℕ) (at : ℕ) (o : Out) (t : List ℕ) (g : Read) (p : g ≡ gap_at s at) where
+module _ (base : ℕ) (s : List ℕ) (at : ℕ) (o : Out) (t : List ℕ) (g : Option ℕ) (p : g ≡ gap_at s at) where
   line_is : posting_line s at ≡ (token (gap_at s at) and flagged_of s)
   unfolding posting_line gap flagged_of holder_of units_end units_of
   line_is = refl
 
-  pub line_on : (u : List ℕ) (j : ℕ) (r : Ran) → g ≡ Read.To j → Did base (flagged_of s j) o t u r → Did base (posting_line s at) o t u r
+  pub line_on : (u : List ℕ) (j : ℕ) (r : Reading Out) → g ≡ Some j → Did base (flagged_of s j) o t u r → Did base (posting_line s at) o t u r
   line_on u j r q h = rw line_is (token_read base o t g (gap_at s at) p (flagged_of s) j u r q h)
 
-  pub line_miss : g ≡ Read.Miss → Did base (posting_line s at) o t t Ran.Miss
+  pub line_miss : g ≡ None → Did base (posting_line s at) o t t (Err Stop.Miss)
   line_miss q = rw line_is (token-off base o t g (gap_at s at) p (flagged_of s) q)
 
-pub ruleset line_laws = (line_on, line_miss)
+pub ruleset line_laws = (tried, line_on, line_miss)

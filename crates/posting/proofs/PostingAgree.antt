@@ -1,4 +1,6 @@
 -- Locality of metadata and postings, whose values may be strings that cross the cut.
+use Rattle.text.specs.declared.stop.Cause.{Cause}
+use Rattle.std.specs.Prelude.{None, Option, Some}
 use Prim.Native.Nat.{ℕ, suc, ◌+◌, ◌-◌, ◌≤◌, ◌<◌}
 use native.Mathlib.Omega.{arith}
 use mathlib.Core.Path.{◌≡◌, refl, sym, ◌∙◌}
@@ -10,7 +12,6 @@ use Rattle.text.specs.Strings.{string_at}
 use Rattle.text.specs.Currencies.{currency_at}
 use Rattle.text.specs.Answer.{To, Miss, must, ◌then◌, ◌and◌, ◌else◌}
 use Rattle.text.specs.Leaves.{token, string, currency, line_end}
-use Rattle.text.specs.declared.Read.{Read}
 use Rattle.text.proofs.InLine.{start_bounds, line_end_misses}
 use Rattle.text.proofs.Alike.{Upto, upto}
 use Rattle.text.proofs.SharedLines.{Shared, gap_alike, line_alike, byte_alike}
@@ -34,9 +35,9 @@ pub quote_at : (row : ℕ → ℕ → Detail) (s : List ℕ) (at j : ℕ) (x : L
 unfolding quoted string token ◌and◌
 quote_at row s at j x e = go (string_at s at) refl e
   where
-    go : (r : Read) → string_at s at ≡ r → (token r and λ e. To e (row (at + 1) (e - 1) ∷ [])) ≡ To j x → get_or s at 0 ≡ 34
-    go (Read.To k) p q = (string_quotes s at k p).1
-    go Read.Miss p q = absurd (let z : ◌≡◌ {A = ℕ} 0 1 = cc in omega arith)
+    go : (r : Option ℕ) → string_at s at ≡ r → (token r and λ e. To e (row (at + 1) (e - 1) ∷ [])) ≡ To j x → get_or s at 0 ≡ 34
+    go (Some k) p q = (string_quotes s at k p).1
+    go None p q = absurd (let z : ◌≡◌ {A = ℕ} 0 1 = cc in omega arith)
 
 module _ (s : List ℕ) (at : ℕ) (e : get_or s at 0 ≡ 34) where
   no_currency : currency {A = Detail} s at ≡ Miss
@@ -67,7 +68,7 @@ module _ (front t : List ℕ) (b : ℕ) (B : is_start b ≡ true) where
   longer = omega (arith, length-append X (ys front t b B))
 
   -- a required line end, also at the cut, where it refuses on the longer text
-  pub line_agree : (k at : ℕ) → at < suc M → Agrees M (suc M) false (must k at (line_end S at)) (must k at (line_end X at))
+  pub line_agree : (k : Cause) (at : ℕ) → at < suc M → Agrees M (suc M) false (must k at (line_end S at)) (must k at (line_end X at))
   unfolding must line_end token
   line_agree k = at_seam front t b B (λ at. Agrees M (suc M) false (must k at (line_end S at)) (must k at (line_end X at)))
       (λ at h. must_agree k at (same_agree {t = false} (line_alike C (upto at h)))) (rw (line_end_misses X t b (start_bounds b B)) (refuses k M))

@@ -1,4 +1,5 @@
 -- Where the forms of rules 12, 13 and 16 end: at or past their start, and within the text, where a refusal stands too.
+use Rattle.std.specs.Prelude.{None, Some}
 use Prim.Native.Nat.{ℕ, suc, ◌+◌, ◌≤◌}
 use native.Mathlib.Omega.{arith}
 use mathlib.Core.Path.{refl}
@@ -9,7 +10,6 @@ use Rattle.text.specs.Run.{run_to, blanks}
 use Rattle.text.specs.Answer.{To, Miss, ◌and◌, maybe, many}
 use Rattle.text.specs.Leaves.{token, gap, line_end, date, currency, byte, comma}
 use Rattle.text.specs.Accounts.{account}
-use Rattle.text.specs.declared.Read.{Read}
 use Rattle.text.proofs.Steps.{such_within}
 use Rattle.text.proofs.Joins.{Reach, to_reach, miss_reach, reach_from, cond_reach, else_reach, then_reach, and_reach, maybe_reach, many_reach}
 use Rattle.text.proofs.TokenEnds.{run_reach, gap_reach, line_reach, empty_reach, account_reach, currency_reach, byte_reach, date_reach, comma_reach}
@@ -44,7 +44,7 @@ module _ (s : List ℕ) where
   pub key_reach : (at : ℕ) → Reach N (at + 1) (key s at)
   unfolding key key_at token is_small
   key_reach at =
-      cond_reach token N (at + 1) (is_small (get_or s at 0)) (Read.To (run_to in_tag s (at + 1))) Read.Miss
+      cond_reach token N (at + 1) (is_small (get_or s at 0)) (Some (run_to in_tag s (at + 1))) None
       (λ e.
       let l = such_within is_small s at (get_or s at 0) refl refl e in
       let r = run_reach in_tag s (at + 1) (omega arith) in

@@ -1,6 +1,7 @@
 -- A step of a body: no row, or the row of a posting and those that follow it. None of these is a posting's; where the
 -- first of them is an amount's, it is the posting's own, with its currency within the text and a value within the
 -- limit. The body one step at a time.
+use Rattle.text.specs.declared.stop.Cause.{Cause}
 use Prim.Native.Nat.{ℕ, zero, suc, ◌+◌, ◌≤◌, ◌<◌}
 use native.Mathlib.Omega.{arith}
 use mathlib.Core.Path.{◌≡◌, refl, sym, ◌∙◌, ap, subst}
@@ -192,7 +193,7 @@ module _ (s : List ℕ) where
     unfolding body
     body_miss q = let z = sym (many_miss N (body_step s) i q) ∙ w in (cc, cc)
 
-    pub body_hard : (k p : ℕ) → body_step s i ≡ Hard k p → ⊥
+    pub body_hard : (k : Cause) (p : ℕ) → body_step s i ≡ Hard k p → ⊥
     unfolding body
     body_hard k p q = let z = sym (many_hard N (body_step s) i k p q) ∙ w in let y : ◌≡◌ {A = ℕ} 0 1 = cc in omega arith
 

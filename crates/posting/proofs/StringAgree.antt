@@ -1,4 +1,5 @@
 -- Rule 5's strings, which may cross the cut: on the text that ends there, a string that would end past it is a miss.
+use Rattle.std.specs.Prelude.{None, Option, Some}
 use Prim.Native.Nat.{ℕ, suc, ◌+◌, ◌-◌, ◌<◌}
 use native.Mathlib.Omega.{arith}
 use native.Mathlib.Decide.{dec_lt}
@@ -13,7 +14,6 @@ use Rattle.text.specs.Bytes.{is_digit, is_small, is_ordinary, is_escaped}
 use Rattle.text.specs.Strings.{str_from, esc_from, string_at}
 use Rattle.text.specs.Answer.{To, more, ◌and◌}
 use Rattle.text.specs.Leaves.{token, string}
-use Rattle.text.specs.declared.Read.{Read}
 use Rattle.text.proofs.TestLaws.{absurd_bool}
 use Rattle.text.proofs.StringSame.{within, string_cut, string_stays}
 use Rattle.text.proofs.InLine.{start_not}
@@ -27,7 +27,7 @@ use Rattle.posting.proofs.Agree.{spans_string, torn_by, torn, Agrees, misses, re
 
 -- ---- a string starts and ends with a quote
 
-missed_to : {A : Type 0} (j : ℕ) → ◌≡◌ {A = Read} Read.Miss (Read.To j) → A
+missed_to : {A : Type 0} (j : ℕ) → ◌≡◌ {A = Option ℕ} None (Some j) → A
 missed_to j e = absurd (let z : ◌≡◌ {A = ℕ} 0 1 = cc in omega arith)
 
 -- of r, which starts at place i, the byte before place j is a quote
@@ -40,30 +40,30 @@ quote_step x r i j h = let e : j - 1 - i ≡ suc (j - 1 - (i + 1)) = omega arith
 mutual
   unfolding str_from esc_from
 
-  str_quote : (r : List ℕ) (ordinary : Bool) (i j : ℕ) → str_from ordinary r i ≡ Read.To j → Quote r i j
+  str_quote : (r : List ℕ) (ordinary : Bool) (i j : ℕ) → str_from ordinary r i ≡ Some j → Quote r i j
   str_quote [] ordinary i j e = missed_to j e
   str_quote (x ∷ r) ordinary i j e = go (is_ordinary x) (eqb x 34) ordinary refl e (λ h. str_quote r true (i + 1) j h) (λ h. esc_quote r (i + 1) j h)
     where
-      go : (a b c : Bool) → eqb x 34 ≡ b → cond a (str_from true r (i + 1)) (cond b (Read.To (i + 1)) (cond c (esc_from r (i + 1)) Read.Miss)) ≡ Read.To j
-          → (str_from true r (i + 1) ≡ Read.To j → Quote r (i + 1) j) → (esc_from r (i + 1) ≡ Read.To j → Quote r (i + 1) j) → Quote (x ∷ r) i j
+      go : (a b c : Bool) → eqb x 34 ≡ b → cond a (str_from true r (i + 1)) (cond b (Some (i + 1)) (cond c (esc_from r (i + 1)) None)) ≡ Some j
+          → (str_from true r (i + 1) ≡ Some j → Quote r (i + 1) j) → (esc_from r (i + 1) ≡ Some j → Quote r (i + 1) j) → Quote (x ∷ r) i j
       go true b c p q f g = quote_step x r i j (f q)
       go false true c p q f g = let k : i + 1 ≡ j = cc in let z : j - 1 - i ≡ 0 = omega arith in (omega arith, rw z (eqb-true x 34 p))
       go false false true p q f g = quote_step x r i j (g q)
       go false false false p q f g = missed_to j q
 
-  esc_quote : (r : List ℕ) (i j : ℕ) → esc_from r i ≡ Read.To j → Quote r i j
+  esc_quote : (r : List ℕ) (i j : ℕ) → esc_from r i ≡ Some j → Quote r i j
   esc_quote [] i j e = missed_to j e
   esc_quote (x ∷ r) i j e = go (is_escaped x) e (λ h. str_quote r false (i + 1) j h)
     where
-      go : (a : Bool) → cond a (str_from false r (i + 1)) Read.Miss ≡ Read.To j → (str_from false r (i + 1) ≡ Read.To j → Quote r (i + 1) j) → Quote (x ∷ r) i j
+      go : (a : Bool) → cond a (str_from false r (i + 1)) None ≡ Some j → (str_from false r (i + 1) ≡ Some j → Quote r (i + 1) j) → Quote (x ∷ r) i j
       go true q g = quote_step x r i j (g q)
       go false q g = missed_to j q
 
-pub string_quotes : (s : List ℕ) (at j : ℕ) → string_at s at ≡ Read.To j → (at + 1 < j) × (get_or s at 0 ≡ 34) × (get_or s (j - 1) 0 ≡ 34)
+pub string_quotes : (s : List ℕ) (at j : ℕ) → string_at s at ≡ Some j → (at + 1 < j) × (get_or s at 0 ≡ 34) × (get_or s (j - 1) 0 ≡ 34)
 unfolding string_at
 string_quotes s at j e = go (eqb (get_or s at 0) 34) refl e
   where
-    go : (a : Bool) → eqb (get_or s at 0) 34 ≡ a → cond a (str_from false (drop (at + 1) s) (at + 1)) Read.Miss ≡ Read.To j → (at + 1 < j) × (get_or s at 0 ≡ 34) × (get_or s (j - 1) 0 ≡ 34)
+    go : (a : Bool) → eqb (get_or s at 0) 34 ≡ a → cond a (str_from false (drop (at + 1) s) (at + 1)) None ≡ Some j → (at + 1 < j) × (get_or s at 0 ≡ 34) × (get_or s (j - 1) 0 ≡ 34)
     go true p q =
         let k = str_quote (drop (at + 1) s) false (at + 1) j q in
         let z : at + 1 + (j - 1 - (at + 1)) ≡ j - 1 = omega arith in
@@ -98,7 +98,7 @@ module _ (front t : List ℕ) (b : ℕ) (B : is_start b ≡ true) where
   no_quote h e = absurd_bool (sym (start_not b 34 h refl) ∙ ap (λ z. eqb z 34) (sym (seam front t b B) ∙ e))
 
   -- a string that ends past the cut: its content starts before it, and ends past it
-  over : (at j : ℕ) → at < suc M → string_at S at ≡ Read.To j → M < j → (at + 1 < M) × (M < j - 1)
+  over : (at j : ℕ) → at < suc M → string_at S at ≡ Some j → M < j → (at + 1 < M) × (M < j - 1)
   over at j h e l =
       let q = string_quotes S at j e in (
         elim (dec_lt at M) [
@@ -109,22 +109,22 @@ module _ (front t : List ℕ) (b : ℕ) (B : is_start b ≡ true) where
       )
 
   pub data Seen (at : ℕ) : Type 0 where
-    missed : string_at S at ≡ Read.Miss → string_at X at ≡ Read.Miss → Seen at
-    read : (j : ℕ) → j < M → string_at S at ≡ Read.To j → string_at X at ≡ Read.To j → Seen at
-    crossed : (j : ℕ) → at + 1 < M → M < j - 1 → string_at S at ≡ Read.To j → string_at X at ≡ Read.Miss → Seen at
+    missed : string_at S at ≡ None → string_at X at ≡ None → Seen at
+    read : (j : ℕ) → j < M → string_at S at ≡ Some j → string_at X at ≡ Some j → Seen at
+    crossed : (j : ℕ) → at + 1 < M → M < j - 1 → string_at S at ≡ Some j → string_at X at ≡ None → Seen at
 
   pub seen : (at : ℕ) → at < suc M → Seen at
   seen at h = go (string_at S at) refl (string_cut X (ys front t b B) at)
     where
-      short : (j : ℕ) → string_at X at ≡ Read.To j → j < M
+      short : (j : ℕ) → string_at X at ≡ Some j → j < M
       short j e = omega (arith, string_stays front at j e, length-append front (10 ∷ []))
 
-      go : (r : Read) → string_at S at ≡ r → string_at X at ≡ within M (string_at S at) → Seen at
-      go (Read.To j) e c = elim (dec_lt M j) [
+      go : (r : Option ℕ) → string_at S at ≡ r → string_at X at ≡ within M (string_at S at) → Seen at
+      go (Some j) e c = elim (dec_lt M j) [
         | yes l ↦ let k = over at j h e l in crossed j k.0 k.1 e (c ∙ rw (e, lt-leb j M l))
-        | no l ↦ let f : string_at X at ≡ Read.To j = c ∙ rw (e, le-leb j M (omega arith)) in read j (short j f) e f
+        | no l ↦ let f : string_at X at ≡ Some j = c ∙ rw (e, le-leb j M (omega arith)) in read j (short j f) e f
       ]
-      go Read.Miss e c = missed e (c ∙ rw e)
+      go None e c = missed e (c ∙ rw e)
 
   -- a string with its rows
   pub string_agree : (row : ℕ → ℕ → List Detail) → ((lo hi : ℕ) → lo < M → M < hi → torn M (row lo hi) ≡ true) → (at : ℕ) → at < suc M

@@ -1,18 +1,17 @@
 -- Rule 16. Metadata (H): any number of lines of gap, key, `:`, gap, value, line end, and of empty or comment lines.
-use Rattle.std.specs.Prelude.{ℕ, suc, ◌+◌, cond, List, [], ◌∷◌, length, get_or}
+use Rattle.std.specs.Prelude.{ℕ, suc, ◌+◌, cond, List, [], ◌∷◌, length, get_or, None, Option, Some}
 use Prim.Native.Char.{code}
 use Rattle.text.specs.Bytes.{is_small, in_tag}
 use Rattle.text.specs.Run.{run_to}
 use Rattle.text.specs.Answer.{To, ◌then◌, ◌and◌, ◌else◌, many}
 use Rattle.text.specs.Leaves.{gap, currency, byte, line_end, empty_line}
-use Rattle.text.specs.declared.Read.{Read}
 use Rattle.amount.specs.Kinds.{string_meta_kind, number_meta_kind, currency_meta_kind}
 use Rattle.amount.specs.Details.{Rows, named, valued, quoted}
 use Rattle.amount.specs.Expression.{expression}
 
 -- Key: small letter, then letters, digits, `-`, `_`.
-unfoldable pub key_at : List ℕ → ℕ → Read
-key_at s at = cond (is_small (get_or s at 0)) (Read.To (run_to in_tag s (at + 1))) Read.Miss
+unfoldable pub key_at : List ℕ → ℕ → Option ℕ
+key_at s at = cond (is_small (get_or s at 0)) (Some (run_to in_tag s (at + 1))) None
 
 unfoldable pub key : List ℕ → ℕ → Rows
 key s at = Rattle.text.specs.Leaves.token (key_at s at)

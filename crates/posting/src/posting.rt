@@ -6,128 +6,94 @@ ghost use Rattle.posting.specs.Postings.{posting_line};
 ghost use Rattle.posting.specs.steps.Parts.{flag_gap, costs_of, units_of, units_end, holder_of, flagged_of};
 
 use crate::cost;
-use amount::detail::One;
 use amount::{amounts, detail, kind};
 use row::writer;
-use row::writer::{Out, Ran};
-use text::account::AccountRead;
-use text::{Read, account, bytes, line, refusal};
+use row::writer::Out;
+use text::stop::{Reading, Stop};
+use text::{account, bytes, line};
 
 // A flag and a gap: the end of the gap.
-fn flag_gap(s: &[u8], at: usize) -> Read
+fn flag_gap(s: &[u8], at: usize) -> Option<usize>
     ensures { result ≡ flag_gap s.now at }
 {
-    if at < s.len() {
-        let b = s[at];
-        if b == 0 {
-            return Read::Miss;
-        }
-        if bytes::is_small(b) {
-            return Read::Miss;
-        }
-        return line::gap(s, at + 1);
+    let b = *s.get(at)?;
+    if b == 0 || bytes::is_small(b) {
+        return None;
     }
-    Read::Miss
+    line::gap(s, at + 1)
 }
 
 // After the amount: optionally gap and cost, optionally gap and price.
-fn costs_at(s: &[u8], at: usize, base: usize, table: &mut [u8], out: Out) -> Ran
+fn costs_at(s: &[u8], at: usize, base: usize, table: &mut [u8], out: Out) -> Reading<Out>
     requires { Writable 4 base out }
     ensures { Did base (costs_of s.now at) out table.old table.new result }
 {
-    let x = cost::optional_cost(s, at, base, table, out);
-    match x {
-        Ran::To(e, o) => cost::optional_price(s, e, base, table, o),
-        Ran::Miss => Ran::Miss,
-        Ran::Hard(k, p) => Ran::Hard(k, p),
-    }
+    let (e, o) = cost::optional_cost(s, at, base, table, out)?;
+    cost::optional_price(s, e, base, table, o)
 }
 
 // Optionally gap, amount, and what may follow it.
-fn units_at(s: &[u8], at: usize, base: usize, table: &mut [u8], out: Out) -> Ran
+fn units_at(s: &[u8], at: usize, base: usize, table: &mut [u8], out: Out) -> Reading<Out>
     requires { Writable 5 base out }
     ensures { Did base (units_of s.now at) out table.old table.new result }
 {
-    let g = line::gap(s, at);
-    match g {
-        Read::To(j) => {
-            let x = amounts::amount_at(s, j, kind::AMOUNT);
-            match x {
-                One::Read(e, d) => {
-                    let o = writer::emit(table, base, out, d);
-                    costs_at(s, e, base, table, o)
-                }
-                One::Miss => Ran::To(at, out),
-                One::Hard(k, p) => Ran::Hard(k, p),
-            }
+    let Some(j) = line::gap(s, at) else {
+        return Ok((at, out));
+    };
+    match amounts::amount_at(s, j, kind::AMOUNT) {
+        Ok((e, d)) => {
+            let o = writer::emit(table, base, out, d);
+            costs_at(s, e, base, table, o)
         }
-        Read::Miss => Ran::To(at, out),
+        Err(Stop::Miss) => Ok((at, out)),
+        Err(hard) => Err(hard),
     }
 }
 
 // After the account, whose row is written: units, line end.
-fn units_end(s: &[u8], at: usize, base: usize, table: &mut [u8], out: Out) -> Ran
+fn units_end(s: &[u8], at: usize, base: usize, table: &mut [u8], out: Out) -> Reading<Out>
     requires { Writable 5 base out }
     ensures { Did base (units_end s.now at) out table.old table.new result }
 {
-    let x = units_at(s, at, base, table, out);
-    match x {
-        Ran::To(e, o) => {
-            let l = line::line_end(s, e);
-            match l {
-                Read::To(f) => Ran::To(f, o),
-                Read::Miss => Ran::Miss,
-            }
-        }
-        Ran::Miss => Ran::Miss,
-        Ran::Hard(k, p) => Ran::Hard(k, p),
-    }
+    let (e, o) = units_at(s, at, base, table, out)?;
+    let f = line::line_end(s, e).ok_or(Stop::Miss)?;
+    Ok((f, o))
 }
 
 // The account of a posting, with its flag; units; line end.
-fn holder_at(s: &[u8], at: usize, flag: usize, base: usize, table: &mut [u8], out: Out) -> Ran
+fn holder_at(
+    s: &[u8],
+    at: usize,
+    flag: usize,
+    base: usize,
+    table: &mut [u8],
+    out: Out,
+) -> Reading<Out>
     requires { Writable 6 base out }
     ensures { Did base (holder_of flag s.now at) out table.old table.new result }
 {
-    let a = account::account(s, at);
-    match a {
-        AccountRead::To(e) => {
-            let o = writer::emit(
-                table,
-                base,
-                out,
-                detail::named(kind::POSTING, at, e, flag, 0),
-            );
-            units_end(s, e, base, table, o)
-        }
-        AccountRead::Miss => Ran::Miss,
-        AccountRead::Hard => Ran::Hard(refusal::SECOND_PART, at),
-    }
+    let e = account::account(s, at)?;
+    let d = detail::named(kind::POSTING, at, e, flag, 0);
+    let o = writer::emit(table, base, out, d);
+    units_end(s, e, base, table, o)
 }
 
 // Optionally flag and gap, account, units, line end.
-fn flagged_at(s: &[u8], at: usize, base: usize, table: &mut [u8], out: Out) -> Ran
+fn flagged_at(s: &[u8], at: usize, base: usize, table: &mut [u8], out: Out) -> Reading<Out>
     requires { Writable 6 base out }
     ensures { Did base (flagged_of s.now at) out table.old table.new result }
 {
-    let f = flag_gap(s, at);
-    match f {
-        Read::To(j) => {
-            let b = bytes::wide(bytes::peek(s, at));
-            holder_at(s, j, b, base, table, out)
-        }
-        Read::Miss => holder_at(s, at, 0, base, table, out),
+    match flag_gap(s, at) {
+        Some(j) => holder_at(s, j, usize::from(bytes::peek(s, at)), base, table, out),
+        None => holder_at(s, at, 0, base, table, out),
     }
 }
 
 // Rule 12, up to the line end.
-pub fn posting_line(s: &[u8], at: usize, base: usize, table: &mut [u8], out: Out) -> Ran
+pub fn posting_line(s: &[u8], at: usize, base: usize, table: &mut [u8], out: Out) -> Reading<Out>
     requires { Writable 6 base out }
     ensures { Did base (posting_line s.now at) out table.old table.new result }
 {
-    let g = line::gap(s, at);
-    match g {
-        Read::To(j) => flagged_at(s, j, base, table, out),
-        Read::Miss => Ran::Miss,
-    }
+    let j = line::gap(s, at).ok_or(Stop::Miss)?;
+    flagged_at(s, j, base, table, out)
 }

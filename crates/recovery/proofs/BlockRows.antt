@@ -1,4 +1,7 @@
 -- The rows of a block: no more than its bytes, each on its line; and the code that reads a block.
+use Rattle.text.specs.Refusals.{refused_with}
+use Rattle.text.specs.declared.stop.Refused.{Refused}
+use Rattle.std.specs.Prelude.{Err, Ok, Result}
 use Prim.Native.Nat.{ℕ, suc, ◌+◌, ◌<◌}
 use native.Mathlib.Nat.{add-zero}
 use native.Mathlib.Omega.{arith}
@@ -13,7 +16,6 @@ use Rattle.row.specs.steps.Pouring.{pour}
 use Rattle.ledger.specs.Plain.{move, moved, Reading, accepted, denied}
 use Rattle.ledger.specs.Strict.{part_by}
 use Rattle.ledger.specs.steps.Scan.{with_line, moved_reading, part_at_by, scan_answer, ScanPoured}
-use Rattle.ledger.specs.declared.scan.Scan.{Scan}
 use Rattle.ledger.specs.declared.scan.Profile.{Profile}
 use Rattle.ledger.specs.declared.scan.Profile.TheVariants.{Plain, Strict}
 use Rattle.ledger.proofs.PlainLaws.{Kept, kept_move}
@@ -58,7 +60,7 @@ block_unlined K a l x = go (part_by K x)
 abbrev refused_row : ℕ → ℕ → ℕ → ℕ → Row
 refused_row a n k q = record { kind = 90; start = a; end = a + n; line = 0; p = k; q = q; bits = 0 }
 
-module _ (K : Profile) (a : ℕ) (s : List ℕ) (m : Scan) (e : m ≡ scan_answer (part_at_by K a s)) where
+module _ (K : Profile) (a : ℕ) (s : List ℕ) (m : Result ℕ Refused) (e : m ≡ scan_answer (part_at_by K a s)) where
   block_moved : part_at_by K a s ≡ moved_reading a 0 (part_by K s)
   block_moved = go K
     where
@@ -66,29 +68,33 @@ module _ (K : Profile) (a : ℕ) (s : List ℕ) (m : Scan) (e : m ≡ scan_answe
       go Plain = part_move a 0 s
       go Strict = refl
 
-  module _ (k q : ℕ) (i : m ≡ Scan.Stopped k q) where
-    refused_row_lem : unlined_block K a s ≡ refused_row a (length s) k q ∷ []
+  module _ (x : Refused) (i : m ≡ Err x) where
+    refused_row_lem : unlined_block K a s ≡ refused_row a (length s) x.number x.place ∷ []
     unfolding unlined_block block_rows row_of scan_answer twos_of
     refused_row_lem = go (part_by K s) (sym i ∙ e ∙ ap scan_answer block_moved)
       where
-        go : (w : Reading) → Scan.Stopped k q ≡ scan_answer (moved_reading a 0 w)
-            → map (with_line 0) (block_rows a 0 (length s) w) ≡ refused_row a (length s) k q ∷ []
+        go : (w : Reading) → Err x ≡ scan_answer (moved_reading a 0 w)
+            → map (with_line 0) (block_rows a 0 (length s) w) ≡ refused_row a (length s) x.number x.place ∷ []
         go (accepted rs) z = absurd (let y : ◌≡◌ {A = ℕ} 0 1 = cc in omega arith)
-        go (denied j p) z = cc
+        go (denied j p) z =
+            let y : x ≡ refused_with j (a + p) 0 = cc in
+            let n : x.number ≡ j = ap (λ (r : Refused). r.number) y in
+            let q : x.place ≡ a + p = ap (λ (r : Refused). r.place) y in
+            rw (n, q) refl
 
     pub block_one : 1 ≡ length (unlined_block K a s)
     block_one = rw refused_row_lem
 
-    pub block_refused : (t v u : List ℕ) → length v ≡ length t → u ≡ pour (refused_row a (length s) k q ∷ []) v
+    pub block_refused : (t v u : List ℕ) → length v ≡ length t → u ≡ pour (refused_row a (length s) x.number x.place ∷ []) v
         → Front (unlined_block K a s) t u
     block_refused t v u l z = rw refused_row_lem (front_one _ t v u l z)
 
-  module _ (n : ℕ) (i : m ≡ Scan.Whole n) where
+  module _ (n : ℕ) (i : m ≡ Ok n) where
     was_whole : (rs : List Row) × (part_at_by K a s ≡ accepted rs) × (map (with_line 0) rs ≡ unlined_block K a s) × (n ≡ length rs)
     unfolding unlined_block block_rows scan_answer
     was_whole = go (part_by K s) refl (sym i ∙ e ∙ ap scan_answer block_moved)
       where
-        go : (w : Reading) → part_by K s ≡ w → Scan.Whole n ≡ scan_answer (moved_reading a 0 w)
+        go : (w : Reading) → part_by K s ≡ w → Ok n ≡ scan_answer (moved_reading a 0 w)
             → (rs : List Row) × (part_at_by K a s ≡ accepted rs) × (map (with_line 0) rs ≡ map (with_line 0) (block_rows a 0 (length s) (part_by K s))) × (n ≡ length rs)
         go (accepted rs) f z = (moved a 0 rs, block_moved ∙ ap (moved_reading a 0) f, rw f, cc)
         go (denied j p) f z = absurd (let y : ◌≡◌ {A = ℕ} 0 1 = cc in omega arith)

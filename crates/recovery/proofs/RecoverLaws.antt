@@ -1,4 +1,8 @@
 -- Recovering reading: its answers and its table, each from what the code knows where it answers.
+use Rattle.text.specs.declared.stop.Refused.{Refused}
+use Rattle.ledger.proofs.ReadLaws.{too_short_by}
+use Rattle.text.specs.Refusals.{refused_with}
+use Rattle.std.specs.Prelude.{Err, Ok}
 use Prim.Native.Nat.{ℕ, suc, ◌*◌, ◌-◌, ◌≤◌, ◌<◌}
 use native.Mathlib.Omega.{arith}
 use mathlib.Core.Path.{◌≡◌, sym, ◌∙◌, ap, subst}
@@ -15,7 +19,6 @@ use Rattle.row.specs.steps.Sweep.{lines_set}
 use Rattle.ledger.specs.Plain.{accepted, denied}
 use Rattle.ledger.specs.Answers.{answer, left}
 use Rattle.ledger.specs.steps.Scan.{with_line}
-use Rattle.ledger.specs.declared.read.Answer.{Answer}
 use Rattle.ledger.specs.declared.scan.Profile.{Profile}
 use Rattle.ledger.proofs.LinedRows.{lines_left}
 use Rattle.recovery.specs.Recovering.{recover_by, recovered_by}
@@ -31,9 +34,9 @@ module _ (K : Profile) where
     unfolding recovered_by
     recovered_large = rw (lt-leb (length s) size_limit h)
 
-    pub large_answer : (room : ℕ) → Answer.Refusal 1 0 0 ≡ answer (recovered_by K s) room
+    pub large_answer : (room : ℕ) (r : Refused) → r ≡ refused_with 1 0 0 → Err r ≡ answer (recovered_by K s) room
     unfolding answer
-    large_answer room = rw recovered_large
+    large_answer room r q = rw (recovered_large, q)
 
     pub large_left : (t : List ℕ) → t ≡ left (recovered_by K s) t
     unfolding left
@@ -57,9 +60,9 @@ module _ (K : Profile) where
       short : room t < length all_rows
       short = omega (arith, wanted)
 
-      pub short_answer : Answer.Refusal 9 0 n ≡ answer (recovered_by K s) (room t)
+      pub short_answer : Err (refused_with 9 0 n) ≡ answer (recovered_by K s) (room t)
       unfolding answer
-      short_answer = ap (Answer.Refusal 9 0) wanted ∙ rw (recovered_rows, lt-leb (length all_rows) (room t) short)
+      short_answer = ap (λ (z : ℕ). too_short_by z) wanted ∙ rw (recovered_rows, lt-leb (length all_rows) (room t) short)
 
       pub short_left : t ≡ left (recovered_by K s) t
       unfolding left
@@ -69,9 +72,9 @@ module _ (K : Profile) where
       enough : length all_rows ≤ room t
       enough = omega (arith, wanted)
 
-      pub rows_answer : Answer.Rows n ≡ answer (recovered_by K s) (room t)
+      pub rows_answer : Ok n ≡ answer (recovered_by K s) (room t)
       unfolding answer
-      rows_answer = ap Answer.Rows wanted ∙ rw (recovered_rows, le-leb (length all_rows) (room t) enough)
+      rows_answer = ap Ok wanted ∙ rw (recovered_rows, le-leb (length all_rows) (room t) enough)
 
       pub rows_left : (v u : List ℕ) → length v ≡ length (take (n * width - 0) (drop 0 t)) → Front (unlined K s) (take (n * width - 0) (drop 0 t)) v
           → u ≡ lines_set s n (put_mid 0 (n * width - 0) t v) → u ≡ left (recovered_by K s) t

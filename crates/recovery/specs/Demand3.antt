@@ -8,7 +8,7 @@
 --
 -- The reading rules enter by three names alone: `reading_by`, plain or strict reading; `recovered_by`, recovering
 -- reading; `strings`, demand 3's strings.
-use Rattle.std.specs.Prelude.{ℕ, ◌+◌, ◌*◌, ◌≤◌, ◌≡◌, Bool, true, false, ◌||◌, ◌&&◌, List, [], ◌∷◌, ◌++◌, eqb, pos, length, drop}
+use Rattle.std.specs.Prelude.{ℕ, ◌+◌, ◌*◌, ◌≤◌, ◌≡◌, Bool, true, false, ◌||◌, ◌&&◌, List, [], ◌∷◌, ◌++◌, eqb, pos, length, drop, Ok}
 use Prim.Native.Char.{code}
 use Rattle.text.specs.Bytes.{is_digit, is_small}
 use Rattle.text.specs.Permitted.{size_limit}
@@ -19,7 +19,6 @@ use Rattle.entry.specs.Strings.{strings, NoneHolds}
 use Rattle.ledger.specs.Plain.{moved, accepted, denied}
 use Rattle.ledger.specs.Strict.{reading_by}
 use Rattle.ledger.specs.Answers.{answer, left}
-use Rattle.ledger.specs.declared.read.Answer.{Answer}
 use Rattle.ledger.specs.declared.scan.Profile.{Profile}
 use Rattle.recovery.specs.Recovering.{recover_by, recovered_by}
 use Rattle.amount.specs.Kinds.{refusal_kind}
@@ -63,7 +62,7 @@ Demand3 K = (p t : List ℕ) (ts : List Row) → Given K p t ts → Gives K p t 
 -- and past them what it had
 
 pub record Writes (K : Profile) (ledger table : List ℕ) (rs : List Row) : Type 0 where
-  pub answers : answer (recovered_by K ledger) (room table) ≡ Answer.Rows (length rs)
+  pub answers : answer (recovered_by K ledger) (room table) ≡ Ok (length rs)
   pub leaves : left (recovered_by K ledger) table ≡ rows_bytes rs ++ drop (length rs * width) table
 
 abbrev pub Demand3Call : Profile → Type 0

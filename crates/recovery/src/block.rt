@@ -7,7 +7,7 @@ ghost use Rattle.recovery.specs.steps.Front.{unlined_block, Front};
 
 use amount::kind;
 use ledger::scan;
-use ledger::scan::{Profile, Scan};
+use ledger::scan::Profile;
 use row::table;
 use row::table::Row;
 use text::run::Class;
@@ -25,6 +25,7 @@ pub fn block_length(s: &[u8]) -> usize
     ensures { result ≡ block_length s.now }
 {
     let mut i = 0;
+    // A turn takes a whole line: no step that a range could count.
     while i < s.len() {
         let feed = run::run(s, i, Class::Line);
         if s.len() <= feed {
@@ -45,9 +46,9 @@ pub fn block(s: &[u8], base: usize, table: &mut [u8], profile: Profile) -> usize
     ensures answer { result ≡ length (unlined_block profile base s.now) }
     ensures rows { Front (unlined_block profile base s.now) table.old table.new }
 {
-    let m = scan::part(s, base, table, profile);
-    match m {
-        Scan::Stopped(number, place) => {
+    match scan::part(s, base, table, profile) {
+        Ok(n) => n,
+        Err(refused) => {
             table::put_front(
                 table,
                 Row {
@@ -55,13 +56,12 @@ pub fn block(s: &[u8], base: usize, table: &mut [u8], profile: Profile) -> usize
                     start: base,
                     end: base + s.len(),
                     line: 0,
-                    p: number,
-                    q: place,
+                    p: refused.number,
+                    q: refused.place,
                     bits: 0,
                 },
             );
             1
         }
-        Scan::Whole(n) => n,
     }
 }

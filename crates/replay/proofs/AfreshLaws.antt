@@ -1,4 +1,6 @@
 -- A ledger written afresh, whose working space is lent in the front of a buffer.
+use Rattle.replay.specs.declared.call.Reply.{Reply}
+use Rattle.std.specs.Prelude.{Option, Some}
 use Prim.Native.Nat.{ℕ, ◌-◌}
 use native.Mathlib.Omega.{arith}
 use mathlib.Core.Path.{◌≡◌, sym, ◌∙◌, ap}
@@ -12,7 +14,6 @@ use Rattle.rewrite.specs.Rewriting as rewrite
 use Rattle.lumbrisse.specs.Promises.{WritePromise}
 use Rattle.lumbrisse.specs.declared.reply as box
 use Rattle.replay.specs.declared.case.Case.{Case}
-use Rattle.replay.specs.declared.call.Outcome.{Outcome}
 use Rattle.replay.specs.Replies.{wiped, of_spaced, rewritten, rewritten_left}
 use Rattle.replay.proofs.SpaceLaws.{front_lent, front_back}
 
@@ -29,7 +30,7 @@ module _ (c : Case) (s u t : List ℕ) (n : ℕ) (en : n ≡ length u) (x a v t'
   afresh_left = P.output ∙ rw lent_is
 
   pub afresh_told : length v ≡ length (take (n - 0) (drop 0 a)) → (kept : Bool) → kept ≡ wiped c.d u (take (n - 0) (drop 0 (put_mid 0 (n - 0) a v)))
-      → (o : Outcome) → o ≡ Outcome.Answered (of_spaced r kept) → o ≡ rewritten c s u t
+      → (o : Option Reply) → o ≡ Some (of_spaced r kept) → o ≡ rewritten c s u t
   afresh_told lv kept ek o e =
       let lu : length v ≡ n = lv ∙ ap length lent_is ∙ sym en in
       let z : n - 0 ≡ n = omega arith in

@@ -1,4 +1,6 @@
 -- The parts of a case's body lie in the buffers.
+use Rattle.replay.specs.declared.compare.Alike.{Alike}
+use Rattle.std.specs.Prelude.{Option}
 use Prim.Native.Nat.{ℕ, ◌+◌, ◌-◌, ◌≤◌}
 use native.Mathlib.Omega.{arith}
 use mathlib.Core.Path.{◌≡◌, sym, ◌∙◌}
@@ -10,7 +12,6 @@ use lib.ListN.{length, take, drop, length-take, length-drop}
 use lib.Seq.{length-take-le}
 use Rattle.replay.specs.declared.call.Reply.{Reply}
 use Rattle.replay.specs.declared.case.Case.{Case}
-use Rattle.replay.specs.declared.compare.Verdict.{Verdict}
 use Rattle.replay.specs.Verdicts.{verdict}
 
 pub front_counts : (n : ℕ) (xs : List ℕ) → n ≤ length xs → n ≡ length (take n xs)
@@ -20,7 +21,7 @@ pub first_counts : (n m : ℕ) (xs : List ℕ) → n + m ≤ length xs → n ≡
 first_counts n m xs h = front_counts n xs (omega arith)
 
 -- the second text ends where both do
-pub second_cut : (v : Verdict) (c : Case) (must : Reply) (s u t after : List ℕ) (n m : ℕ)
+pub second_cut : (v : Option Alike) (c : Case) (must : Reply) (s u t after : List ℕ) (n m : ℕ)
     → v ≡ verdict c must s (take (n + m - n) u) t after → v ≡ verdict c must s (take m u) t after
 second_cut v c must s u t after n m e = let k : n + m - n ≡ m = omega arith in rw k at e
 

@@ -1,4 +1,6 @@
 -- One step of the display's reader, whose two buffers stand one behind the other: the row's is lent in a spare one.
+use Rattle.replay.specs.declared.call.Reply.{Reply}
+use Rattle.std.specs.Prelude.{None, Option, Some}
 use Prim.Native.Nat.{ℕ, ◌-◌, ◌≤◌, ◌<◌}
 use native.Mathlib.Omega.{arith}
 use mathlib.Core.Path.{◌≡◌, ◌∙◌, ap}
@@ -9,12 +11,11 @@ use lib.ListN.{length, take, drop, length-drop, drop_of_length-le}
 use lib.Seq.{take_at, drop_at, take_all, length-take-le}
 use Rattle.lumbrisse.specs.Promises.{StepPromise}
 use Rattle.lumbrisse.specs.declared.reply as box
-use Rattle.replay.specs.declared.call.Outcome.{Outcome}
 use Rattle.replay.specs.Replies.{of_handed, stepped, stepped_left}
 
 -- a row's buffer that would be longer than both
 module _ (a b : ℕ) (s t : List ℕ) where
-  pub step_unknown : length t < b → Outcome.Unknown ≡ stepped a b s t
+  pub step_unknown : length t < b → None ≡ stepped a b s t
   step_unknown h = rw (lt-leb b (length t) h)
 
   pub left_unknown_step : length t < b → t ≡ stepped_left a b s t
@@ -36,7 +37,7 @@ module _ (a b : ℕ) (s t x w row text : List ℕ) (h : b ≤ length t) (ew : w 
   texts_are = take_all (length t - b) (drop b t) (rw length-drop (omega arith))
 
   module _ (r : box.Handed.Handed) (p : StepPromise s a rows texts r row text) where
-    pub step_told : (o : Outcome) → o ≡ Outcome.Answered (of_handed r) → o ≡ stepped a b s t
+    pub step_told : (o : Option Reply) → o ≡ Some (of_handed r) → o ≡ stepped a b s t
     step_told o e = e ∙ rw (le-leb b (length t) h, p.answer, rows_are, texts_are)
 
     -- both parts are put back as they are left

@@ -1,4 +1,6 @@
 -- Totals, whose working spaces stand one behind the other in a case: each is lent in a buffer of its own.
+use Rattle.replay.specs.declared.call.Reply.{Reply}
+use Rattle.std.specs.Prelude.{None, Option, Some}
 use Prim.Native.Nat.{ℕ, ◌-◌, ◌≤◌, ◌<◌}
 use native.Mathlib.Omega.{arith}
 use mathlib.Core.Path.{◌≡◌, sym, ◌∙◌, ap}
@@ -14,7 +16,6 @@ use Rattle.totals.specs.Totals as totals
 use Rattle.lumbrisse.specs.Promises.{TotalsPromise}
 use Rattle.lumbrisse.specs.declared.reply as box
 use Rattle.replay.specs.declared.case.Case.{Case}
-use Rattle.replay.specs.declared.call.Outcome.{Outcome}
 use Rattle.replay.specs.Replies.{wiped, both_wiped, totals_of, of_spaced, totalled, totalled_left}
 use Rattle.replay.proofs.SpaceLaws.{front_lent, front_back}
 
@@ -29,7 +30,7 @@ both_wiped_lem u y z n d m em p q ep eq =
 pub ruleset kept_parts = (both_wiped_lem)
 
 module _ (c : Case) (s u t : List ℕ) where
-  pub totals_unknown : length u < c.c → Outcome.Unknown ≡ totalled c s u t
+  pub totals_unknown : length u < c.c → None ≡ totalled c s u t
   totals_unknown h = rw (lt-leb c.c (length u) h)
 
   pub left_unknown_totals : length u < c.c → t ≡ totalled_left c s u t
@@ -65,7 +66,7 @@ module _ (c : Case) (s u t : List ℕ) where
 
       pub totals_told : length v ≡ length (take (c.c - 0) (drop 0 a)) → length w ≡ length (take (m - 0) (drop 0 b)) → (kept : Bool)
           → kept ≡ both_wiped c.c c.d u (put_mid 0 (c.c - 0) a v) (put_mid 0 (m - 0) b w)
-          → (o : Outcome) → o ≡ Outcome.Answered (of_spaced r kept) → o ≡ totalled c s u t
+          → (o : Option Reply) → o ≡ Some (of_spaced r kept) → o ≡ totalled c s u t
       totals_told lv lw kept ek o e =
           let ln : length v ≡ c.c = lv ∙ ap length part_one ∙ length-take-le c.c u h in
           let lm : length w ≡ m = lw ∙ ap length part_two ∙ rest_long in

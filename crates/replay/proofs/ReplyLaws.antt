@@ -1,4 +1,6 @@
 -- The answer of the call with a number, and what it leaves.
+use Rattle.replay.specs.declared.call.Reply.{Reply}
+use Rattle.std.specs.Prelude.{None, Option, Some}
 use Prim.Native.Nat.{ℕ}
 use mathlib.Core.Path.{◌≡◌}
 use mathlib.Core.Bool.{true, false}
@@ -9,16 +11,15 @@ use Rattle.decimal.specs.declared.Form.TheVariants.{Exact, Rounding}
 use Rattle.lumbrisse.specs.Promises.{TablePromise, ContentPromise, ExpressionPromise, TagPromise, SpanPromise, PacketPromise}
 use Rattle.lumbrisse.specs.declared.reply as box
 use Rattle.replay.specs.declared.case.Case.{Case}
-use Rattle.replay.specs.declared.call.Outcome.{Outcome}
 use Rattle.replay.specs.Replies.{of_reply, of_evaluated, of_part, is_reading, reading_of, is_rounding, is_exact, stepped, stepped_left, edited, edited_left, totalled, totalled_left, rewritten, rewritten_left, outcome, left_by}
 
 pub evaluated_told : (e : box.Evaluated.Evaluated) (v : ℕ) → v ≡ e.bits
-    → Outcome.Answered (record { number = e.number; place = e.place; count = 0; value = v; tag = 0 }) ≡ Outcome.Answered (of_evaluated e)
+    → Some (record { number = e.number; place = e.place; count = 0; value = v; tag = 0 }) ≡ Some (of_evaluated e)
 evaluated_told e v w = rw w
 
 module _ (c : Case) (s u t : List ℕ) where
   -- an export's reply r, as it promises it
-  module _ (o : Outcome) (r : box.Reply.Reply) (w : o ≡ Outcome.Answered (of_reply r)) where
+  module _ (o : Option Reply) (r : box.Reply.Reply) (w : o ≡ Some (of_reply r)) where
     -- n is the number that the code knows the call by
     pub made_reading : (n : ℕ) → c.call ≡ n → is_reading n ≡ true → (v : List ℕ) → TablePromise (reading_of n s) t r v → o ≡ outcome c s u t
     unfolding outcome
@@ -36,7 +37,7 @@ module _ (c : Case) (s u t : List ℕ) where
     unfolding outcome
     made_force e p = rw (w, e, p)
 
-  module _ (o : Outcome) (r : box.Evaluated.Evaluated) (w : o ≡ Outcome.Answered (of_evaluated r)) where
+  module _ (o : Option Reply) (r : box.Evaluated.Evaluated) (w : o ≡ Some (of_evaluated r)) where
     module _ (n : ℕ) (e : c.call ≡ n) (y : is_reading n ≡ false) where
       pub made_rounding : is_rounding n ≡ true → ExpressionPromise Rounding s r → o ≡ outcome c s u t
       unfolding outcome
@@ -46,29 +47,29 @@ module _ (c : Case) (s u t : List ℕ) where
       unfolding outcome
       made_exact z h p = rw (w, e, y, z, h, p)
 
-  pub made_part : (o : Outcome) (r : box.Part.Part) → o ≡ Outcome.Answered (of_part r) → c.call ≡ 5 → SpanPromise s c.a c.b r → o ≡ outcome c s u t
+  pub made_part : (o : Option Reply) (r : box.Part.Part) → o ≡ Some (of_part r) → c.call ≡ 5 → SpanPromise s c.a c.b r → o ≡ outcome c s u t
   unfolding outcome
   made_part o r w e p = rw (w, e, p.part)
 
-  pub made_totals : (o : Outcome) → c.call ≡ 10 → o ≡ totalled c s u t → o ≡ outcome c s u t
+  pub made_totals : (o : Option Reply) → c.call ≡ 10 → o ≡ totalled c s u t → o ≡ outcome c s u t
   unfolding outcome
   made_totals o e w = rw (w, e)
 
-  pub made_edit : (o : Outcome) → c.call ≡ 14 → o ≡ edited c s u t → o ≡ outcome c s u t
+  pub made_edit : (o : Option Reply) → c.call ≡ 14 → o ≡ edited c s u t → o ≡ outcome c s u t
   unfolding outcome
   made_edit o e w = rw (w, e)
 
-  pub made_write : (o : Outcome) → c.call ≡ 17 → o ≡ rewritten c s u t → o ≡ outcome c s u t
+  pub made_write : (o : Option Reply) → c.call ≡ 17 → o ≡ rewritten c s u t → o ≡ outcome c s u t
   unfolding outcome
   made_write o e w = rw (w, e)
 
-  pub made_step : (o : Outcome) → c.call ≡ 16 → o ≡ stepped c.a c.b s t → o ≡ outcome c s u t
+  pub made_step : (o : Option Reply) → c.call ≡ 16 → o ≡ stepped c.a c.b s t → o ≡ outcome c s u t
   unfolding outcome
   made_step o e w = rw (w, e)
 
   module _ (n1 : c.call ≡ 1 → ⊥) (n2 : c.call ≡ 2 → ⊥) (n7 : c.call ≡ 7 → ⊥) (n8 : c.call ≡ 8 → ⊥) (n4 : c.call ≡ 4 → ⊥) (n10 : c.call ≡ 10 → ⊥) (n14 : c.call ≡ 14 → ⊥) (n15 : c.call ≡ 15 → ⊥) (n16 : c.call ≡ 16 → ⊥) (n17 : c.call ≡ 17 → ⊥) where
     pub made_unknown : (c.call ≡ 3 → ⊥) → (c.call ≡ 5 → ⊥) → (c.call ≡ 6 → ⊥) → (c.call ≡ 9 → ⊥) → (c.call ≡ 12 → ⊥) → (c.call ≡ 13 → ⊥)
-        → Outcome.Unknown ≡ outcome c s u t
+        → None ≡ outcome c s u t
     unfolding outcome
     made_unknown n3 n5 n6 n9 n12 n13 =
         rw (

@@ -1,4 +1,5 @@
 -- Working space: zeros, what was used of it and what was not, and the buffer in whose front it is lent.
+use Rattle.std.specs.Prelude.{Some}
 use Prim.Native.Nat.{ℕ, ◌+◌, ◌-◌, ◌≤◌, ◌<◌}
 use native.Mathlib.Omega.{arith}
 use mathlib.Core.Path.{◌≡◌, sym, ◌∙◌, ap}
@@ -11,7 +12,6 @@ use lib.Seq.{take_at}
 use Rattle.text.proofs.Steps.{drop_step, rest_of}
 use Rattle.access.specs.Tables.{same}
 use Rattle.lumbrisse.specs.declared.reply as box
-use Rattle.replay.specs.declared.call.Outcome.{Outcome}
 use Rattle.replay.specs.Replies.{zeros, wiped, of_spaced}
 
 -- ---- zeros: z is what is left to be seen from i on
@@ -55,11 +55,11 @@ pub ruleset wiped_laws = (wiped_short, wiped_cut, wiped_not, wiped_same)
 
 module _ (r : box.Reply.Reply) (kept : Bool) where
   pub reply_kept : kept ≡ true
-      → Outcome.Answered (record { number = r.number; place = r.place; count = r.count; value = 0; tag = 0 }) ≡ Outcome.Answered (of_spaced r kept)
+      → Some (record { number = r.number; place = r.place; count = r.count; value = 0; tag = 0 }) ≡ Some (of_spaced r kept)
   reply_kept e = rw e
 
   pub reply_lost : kept ≡ false
-      → Outcome.Answered (record { number = r.number; place = r.place; count = r.count; value = 0; tag = 1 }) ≡ Outcome.Answered (of_spaced r kept)
+      → Some (record { number = r.number; place = r.place; count = r.count; value = 0; tag = 1 }) ≡ Some (of_spaced r kept)
   reply_lost e = rw e
 
 pub ruleset kept_laws = (reply_kept, reply_lost)

@@ -1,4 +1,5 @@
 -- What is as it must be.
+use Rattle.std.specs.Prelude.{None, Option, Some}
 use Prim.Native.Nat.{ℕ}
 use mathlib.Core.Path.{◌≡◌, refl, sym}
 use mathlib.Core.Bool.{Bool, true, false}
@@ -9,10 +10,8 @@ use Rattle.text.proofs.TestLaws.{and_left, and_right, absurd_bool}
 use Rattle.access.specs.Spans.{span_text}
 use Rattle.access.specs.Tables.{same}
 use Rattle.replay.specs.declared.call.Reply.{Reply}
-use Rattle.replay.specs.declared.call.Outcome.{Outcome}
 use Rattle.replay.specs.declared.case.Case.{Case}
 use Rattle.replay.specs.declared.compare.Alike.{Alike}
-use Rattle.replay.specs.declared.compare.Verdict.{Verdict}
 use Rattle.replay.specs.Replies.{outcome, left_by}
 use Rattle.replay.specs.Verdicts.{alike, compared, text_same, verdict}
 
@@ -58,14 +57,14 @@ pub ruleset text_laws = (text_compared, no_text)
 
 -- ---- the whole case
 
-module _ (c : Case) (must : Reply) (s u t after : List ℕ) (o : Outcome) (e : o ≡ outcome c s u t) where
+module _ (c : Case) (must : Reply) (s u t after : List ℕ) (o : Option Reply) (e : o ≡ outcome c s u t) where
   pub judged_answered : (r : Reply) (x y : Bool) (w : List ℕ) (z : Alike)
-      → o ≡ Outcome.Answered r → x ≡ text_same c s u → w ≡ left_by c s u t → y ≡ same w after → z ≡ alike r must x y
-      → Verdict.Compared z ≡ verdict c must s u t after
+      → o ≡ Some r → x ≡ text_same c s u → w ≡ left_by c s u t → y ≡ same w after → z ≡ alike r must x y
+      → Some z ≡ verdict c must s u t after
   unfolding verdict compared
   judged_answered r x y w z f g h i j = rw (← e, f, ← g, ← h, ← i, j)
 
-  pub judged_unknown : o ≡ Outcome.Unknown → Verdict.Unknown ≡ verdict c must s u t after
+  pub judged_unknown : o ≡ None → None ≡ verdict c must s u t after
   unfolding verdict compared
   judged_unknown f = rw (← e, f)
 

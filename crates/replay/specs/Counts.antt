@@ -1,7 +1,6 @@
 -- What a verdict counts as, and what that adds to the counts.
-use Rattle.std.specs.Prelude.{ℕ, Bool, true, false, cond}
+use Rattle.std.specs.Prelude.{ℕ, Bool, true, false, cond, None, Option, Some}
 use Rattle.replay.specs.declared.compare.Alike.{Alike}
-use Rattle.replay.specs.declared.compare.Verdict.{Verdict}
 use Rattle.replay.specs.declared.tally.Step.{Step}
 use Rattle.replay.specs.Verdicts.{all_alike}
 
@@ -9,9 +8,9 @@ abbrev pub compared_step : Alike → Step
 compared_step a = cond (all_alike a) Step.Same Step.Differs
 
 -- a call that no number names differs
-abbrev pub step_of : Verdict → Step
-step_of (Verdict.Compared a) = compared_step a
-step_of Verdict.Unknown = Step.Differs
+abbrev pub step_of : Option Alike → Step
+step_of (Some a) = compared_step a
+step_of None = Step.Differs
 
 abbrev pub ends : Step → Bool
 ends Step.End = true

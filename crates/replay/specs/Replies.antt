@@ -1,5 +1,5 @@
 -- What each call answers, as the four numbers of a case, and every byte of the lent buffer afterwards.
-use Rattle.std.specs.Prelude.{ℕ, ◌-◌, Bool, true, cond, ◌||◌, ◌&&◌, List, [], ◌∷◌, ◌++◌, eqb, leb, length, take, drop}
+use Rattle.std.specs.Prelude.{ℕ, ◌-◌, Bool, true, cond, ◌||◌, ◌&&◌, List, [], ◌∷◌, ◌++◌, eqb, leb, length, take, drop, None, Option, Some}
 use Rattle.row.specs.Row.{room}
 use Rattle.ledger.specs.Plain.{Reading, plain}
 use Rattle.ledger.specs.Strict.{strict}
@@ -12,14 +12,13 @@ use Rattle.decimal.specs.declared.Form.TheVariants.{Exact, Rounding}
 use Rattle.access.specs.Single.{evaluated}
 use Rattle.access.specs.Contents.{content_answer, content_left}
 use Rattle.access.specs.Tables.{same, in_force}
-use Rattle.bus.specs.declared.packet.Step.{Step}
+use Rattle.bus.specs.Reading.{Step}
 use Rattle.bus.specs.Reading.{row_left, text_left, step_at}
 use Rattle.bus.specs.Writing.{written, written_left}
-use Rattle.lumbrisse.specs.Numbers.{reply_of, totals_reply, rewrite_reply, written_reply, force_reply, evaluated_of, part_of, handed_of}
+use Rattle.lumbrisse.specs.Numbers.{reply_of, force_reply, evaluated_of, part_of, handed_of}
 use Rattle.lumbrisse.specs.declared.reply as box
 use Rattle.replay.specs.declared.case.Case.{Case}
 use Rattle.replay.specs.declared.call.Reply.{Reply}
-use Rattle.replay.specs.declared.call.Outcome.{Outcome}
 
 -- the numbers of an export's answer: number, place, count and value
 abbrev pub of_reply : box.Reply.Reply → Reply
@@ -41,8 +40,8 @@ abbrev pub step_of : ℕ → ℕ → List ℕ → List ℕ → Step
 step_of a b s t = step_at s a (take b t) (drop b t)
 
 -- a case whose row's buffer is longer than both is none
-abbrev pub stepped : ℕ → ℕ → List ℕ → List ℕ → Outcome
-stepped a b s t = cond (leb b (length t)) (Outcome.Answered (of_handed (handed_of a (step_of a b s t)))) Outcome.Unknown
+abbrev pub stepped : ℕ → ℕ → List ℕ → List ℕ → Option Reply
+stepped a b s t = cond (leb b (length t)) (Some (of_handed (handed_of a (step_of a b s t)))) None
 
 abbrev pub stepped_left : ℕ → ℕ → List ℕ → List ℕ → List ℕ
 stepped_left a b s t =
@@ -53,8 +52,8 @@ abbrev pub edit_of : Case → List ℕ → List ℕ → Reading
 edit_of c s u = editing s (take c.d u) c.c c.a c.b (drop c.d u)
 
 -- a case whose rows are longer than both is none
-abbrev pub edited : Case → List ℕ → List ℕ → List ℕ → Outcome
-edited c s u t = cond (leb c.d (length u)) (Outcome.Answered (of_reply (reply_of (answer (edit_of c s u) (room t))))) Outcome.Unknown
+abbrev pub edited : Case → List ℕ → List ℕ → List ℕ → Option Reply
+edited c s u t = cond (leb c.d (length u)) (Some (of_reply (reply_of (answer (edit_of c s u) (room t))))) None
 
 abbrev pub edited_left : Case → List ℕ → List ℕ → List ℕ → List ℕ
 edited_left c s u t = cond (leb c.d (length u)) (left (edit_of c s u) t) t
@@ -86,19 +85,19 @@ abbrev pub spaces_kept : Case → List ℕ → totals.Outcome → Bool
 spaces_kept c u o = both_wiped c.c c.d u (totals.work_left o (take c.c u)) (totals.work_left o (drop c.c u))
 
 -- a case whose working space is longer than both is none
-abbrev pub totalled : Case → List ℕ → List ℕ → List ℕ → Outcome
+abbrev pub totalled : Case → List ℕ → List ℕ → List ℕ → Option Reply
 totalled c s u t =
     let o = totals_of c s u t in
-    cond (leb c.c (length u)) (Outcome.Answered (of_spaced (totals_reply (totals.answer_of o)) (spaces_kept c u o))) Outcome.Unknown
+    cond (leb c.c (length u)) (Some (of_spaced (reply_of (totals.answer_of o)) (spaces_kept c u o))) None
 
 abbrev pub totalled_left : Case → List ℕ → List ℕ → List ℕ → List ℕ
 totalled_left c s u t = cond (leb c.c (length u)) (totals.items_left (totals_of c s u t) t) t
 
 -- ---- a ledger written afresh: the second text is the working space
 
-abbrev pub rewritten : Case → List ℕ → List ℕ → List ℕ → Outcome
+abbrev pub rewritten : Case → List ℕ → List ℕ → List ℕ → Option Reply
 rewritten c s u t =
-    Outcome.Answered (of_spaced (rewrite_reply (rewrite.answered s (length t) (length u) (plain s))) (wiped c.d u (rewrite.work_left u (plain s))))
+    Some (of_spaced (reply_of (rewrite.answered s (length t) (length u) (plain s))) (wiped c.d u (rewrite.work_left u (plain s))))
 
 abbrev pub rewritten_left : List ℕ → List ℕ → List ℕ → List ℕ
 rewritten_left s u t = rewrite.output_left s (length u) t (plain s)
@@ -118,16 +117,16 @@ abbrev pub reading_of : ℕ → List ℕ → Reading
 reading_of k s = cond (eqb k 1) (plain s) (cond (eqb k 2) (recovered s) (cond (eqb k 7) (strict s) (recovered_strictly s)))
 
 -- the call of a case with two texts and a lent buffer
-unfoldable pub outcome : Case → List ℕ → List ℕ → List ℕ → Outcome
+unfoldable pub outcome : Case → List ℕ → List ℕ → List ℕ → Option Reply
 outcome c s u t =
     let k = c.call in
-    let reading = Outcome.Answered (of_reply (reply_of (answer (reading_of k s) (room t)))) in
-    let single = Outcome.Answered (of_evaluated (evaluated_of (evaluated Rounding s))) in
-    let singleExact = Outcome.Answered (of_evaluated (evaluated_of (evaluated Exact s))) in
-    let content = Outcome.Answered (of_reply (written_reply (content_answer s (length t)))) in
-    let part = Outcome.Answered (of_part (part_of s c.a c.b)) in
-    let force = Outcome.Answered (of_reply (force_reply (in_force s t c.a u))) in
-    let packet = Outcome.Answered (of_reply (written_reply (written s c.a u (length t)))) in
+    let reading = Some (of_reply (reply_of (answer (reading_of k s) (room t)))) in
+    let single = Some (of_evaluated (evaluated_of (evaluated Rounding s))) in
+    let singleExact = Some (of_evaluated (evaluated_of (evaluated Exact s))) in
+    let content = Some (of_reply (reply_of (content_answer s (length t)))) in
+    let part = Some (of_part (part_of s c.a c.b)) in
+    let force = Some (of_reply (force_reply (in_force s t c.a u))) in
+    let packet = Some (of_reply (reply_of (written s c.a u (length t)))) in
     cond (is_reading k) reading
     (cond (is_rounding k) single
     (cond (is_exact k) singleExact
@@ -137,7 +136,7 @@ outcome c s u t =
     (cond (eqb k 10) (totalled c s u t)
     (cond (eqb k 14) (edited c s u t)
     (cond (eqb k 15) packet
-    (cond (eqb k 16) (stepped c.a c.b s t) (cond (eqb k 17) (rewritten c s u t) Outcome.Unknown))))))))))
+    (cond (eqb k 16) (stepped c.a c.b s t) (cond (eqb k 17) (rewritten c s u t) None))))))))))
 
 -- the lent buffer afterwards: readings, string content, totals, an edit, a packet, a step of its reader
 -- and a ledger written afresh write

@@ -2,13 +2,19 @@
 ghost use Rattle.std.specs.Prelude.{◌≡◌, ◌≤◌, length};
 ghost use Rattle.replay.specs.Replies.{rewritten, rewritten_left};
 
-use crate::call::Outcome;
+use crate::call::Reply;
 use crate::case::Case;
 use crate::space;
 use bus::field;
 
 // The working space is lent in `work`.
-pub fn rewritten(c: Case, first: &[u8], second: &[u8], lent: &mut [u8], work: &mut [u8]) -> Outcome
+pub fn rewritten(
+    c: Case,
+    first: &[u8],
+    second: &[u8],
+    lent: &mut [u8],
+    work: &mut [u8],
+) -> Option<Reply>
     requires { length second.now ≤ length work.old }
     ensures answer { result ≡ rewritten c first.now second.now lent.old }
     ensures bytes { lent.new ≡ rewritten_left first.now second.now lent.old }

@@ -1,12 +1,12 @@
 // The calls that a box makes, each with its answer as four numbers.
 ghost use Rattle.std.specs.Prelude.{◌≡◌, ◌≤◌, length};
-ghost use Rattle.replay.specs.declared.call.Outcome.{Outcome};
 ghost use Rattle.replay.specs.Replies.{of_reply, of_evaluated, of_part, outcome, left_by};
 
 use crate::case::Case;
 use crate::{afresh, change, display, month};
 use lumbrisse::reply;
 
+// The calls, by their numbers in case files, which may hold any.
 pub const PLAIN: usize = 1;
 
 pub const RECOVERING: usize = 2;
@@ -51,16 +51,10 @@ pub struct Reply {
     pub tag: usize,
 }
 
-#[derive(Clone, Copy)]
-pub enum Outcome {
-    Answered(Reply),
-    Unknown,
-}
-
-pub fn of_reply(r: reply::Reply) -> Outcome
-    ensures { result ≡ Outcome.Answered (of_reply r) }
+pub fn of_reply(r: reply::Reply) -> Option<Reply>
+    ensures { result ≡ Some (of_reply r) }
 {
-    Outcome::Answered(Reply {
+    Some(Reply {
         number: r.number,
         place: r.place,
         count: r.count,
@@ -69,28 +63,22 @@ pub fn of_reply(r: reply::Reply) -> Outcome
     })
 }
 
-fn wide(x: u64) -> usize
-    ensures { result ≡ x }
+fn of_evaluated(e: reply::Evaluated) -> Option<Reply>
+    ensures { result ≡ Some (of_evaluated e) }
 {
-    x as usize
-}
-
-fn of_evaluated(e: reply::Evaluated) -> Outcome
-    ensures { result ≡ Outcome.Answered (of_evaluated e) }
-{
-    Outcome::Answered(Reply {
+    Some(Reply {
         number: e.number,
         place: e.place,
         count: 0,
-        value: wide(e.bits),
+        value: e.bits as usize,
         tag: 0,
     })
 }
 
-fn of_part(p: reply::Part) -> Outcome
-    ensures { result ≡ Outcome.Answered (of_part p) }
+fn of_part(p: reply::Part) -> Option<Reply>
+    ensures { result ≡ Some (of_part p) }
 {
-    Outcome::Answered(Reply {
+    Some(Reply {
         number: 0,
         place: p.start,
         count: p.length,
@@ -108,7 +96,7 @@ pub fn made(
     lent: &mut [u8],
     spare: &mut [u8],
     work: &mut [u8],
-) -> Outcome
+) -> Option<Reply>
     requires { (length lent.old ≤ length spare.old) × (length second.now ≤ length spare.old) × (length second.now ≤ length work.old) }
     ensures answer { result ≡ outcome c first.now second.now lent.old }
     ensures bytes { lent.new ≡ left_by c first.now second.now lent.old }
@@ -131,6 +119,6 @@ pub fn made(
         PACKET => of_reply(lumbrisse::lumbrisse_packet_write(first, second, c.a, lent)),
         STEP => display::stepped(first, c.a, c.b, lent, spare),
         WRITE => afresh::rewritten(c, first, second, lent, work),
-        _ => Outcome::Unknown,
+        _ => None,
     }
 }

@@ -4,7 +4,7 @@ ghost use Rattle.access.specs.Tables.{same};
 ghost use Rattle.replay.specs.Verdicts.{alike, all_alike, text_same, verdict};
 
 use crate::call;
-use crate::call::{Outcome, Reply};
+use crate::call::Reply;
 use crate::case::Case;
 use access::span;
 
@@ -20,12 +20,7 @@ pub struct Alike {
     pub buffer: bool,
 }
 
-#[derive(Clone, Copy)]
-pub enum Verdict {
-    Compared(Alike),
-    Unknown,
-}
-
+// The library's comparison, in one equation.
 pub fn is_same(a: &[u8], b: &[u8]) -> bool
     ensures { result ≡ same a.now b.now }
 {
@@ -72,17 +67,12 @@ pub fn judged(
     spare: &mut [u8],
     work: &mut [u8],
     after: &[u8],
-) -> Verdict
+) -> Option<Alike>
     requires { (length lent.old ≤ length spare.old) × (length second.now ≤ length spare.old) × (length second.now ≤ length work.old) }
     ensures { result ≡ verdict c must first.now second.now lent.old after.now }
 {
-    let o = call::made(c, first, second, lent, spare, work);
-    match o {
-        Outcome::Answered(r) => {
-            let text = same_text(c, first, second);
-            let buffer = is_same(lent, after);
-            Verdict::Compared(compared(r, must, text, buffer))
-        }
-        Outcome::Unknown => Verdict::Unknown,
-    }
+    let r = call::made(c, first, second, lent, spare, work)?;
+    let text = same_text(c, first, second);
+    let buffer = is_same(lent, after);
+    Some(compared(r, must, text, buffer))
 }

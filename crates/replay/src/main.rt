@@ -19,7 +19,7 @@ ghost use Rattle.replay.specs.Verdicts.{verdict};
 
 use call::Reply;
 use case::Case;
-use compare::Verdict;
+use compare::Alike;
 use std::io::Read;
 use tally::{Step, Tally};
 
@@ -31,6 +31,7 @@ fn read_full(input: &mut impl Read, buffer: &mut [u8]) -> usize
     ensures { result ≤ length buffer.new }
 {
     let mut done = 0;
+    // A turn goes on by what a read gave: no step that a range could count.
     while done < buffer.len() {
         let n = match input.read(&mut buffer[done..]) {
             Ok(n) => n,
@@ -79,7 +80,7 @@ fn judged(
     spare: &mut [u8],
     work: &mut [u8],
     after: &[u8],
-) -> Verdict
+) -> Option<Alike>
     requires { (c.first + c.second ≤ length texts.now) × (c.lent ≤ length lent.old) × (c.lent ≤ length spare.old) × (c.second ≤ length spare.old) × (c.second ≤ length work.old) × (c.lent ≤ length after.now) }
     ensures { result ≡ verdict c must (take c.first texts.now) (take c.second (drop c.first texts.now)) (take c.lent lent.old) (take c.lent after.now) }
 {
@@ -174,6 +175,7 @@ fn replayed(
 ) -> Tally {
     let mut cases: u64 = 0;
     let mut differing: u64 = 0;
+    // The input alone tells how many cases there are: they are counted as they are read.
     while cases < u64::MAX {
         let s = next(
             rt,

@@ -2,7 +2,7 @@
 ghost use Rattle.std.specs.Prelude.{◌≡◌, ◌≤◌, length};
 ghost use Rattle.replay.specs.Replies.{both_wiped, totalled, totalled_left};
 
-use crate::call::Outcome;
+use crate::call::Reply;
 use crate::case::Case;
 use crate::space;
 use bus::field;
@@ -26,14 +26,14 @@ pub fn totalled(
     lent: &mut [u8],
     spare: &mut [u8],
     work: &mut [u8],
-) -> Outcome
+) -> Option<Reply>
     requires { (length second.now ≤ length spare.old) × (length second.now ≤ length work.old) }
     ensures answer { result ≡ totalled c first.now second.now lent.old }
     ensures bytes { lent.new ≡ totalled_left c first.now second.now lent.old }
 {
     let n = c.c;
     if second.len() < n {
-        return Outcome::Unknown;
+        return None;
     }
     let m = second.len() - n;
     field::copy_part(second, 0, n, work);

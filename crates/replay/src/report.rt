@@ -2,7 +2,7 @@
 ghost use Rattle.std.specs.Prelude.{◌≡◌};
 ghost use Rattle.replay.specs.Counts.{compared_step, step_of};
 
-use crate::compare::{Alike, Verdict};
+use crate::compare::Alike;
 use crate::tally::Step;
 use crate::{call, compare};
 
@@ -94,12 +94,12 @@ fn not_known(rt: &impl Print, number: u64, is_shown: bool, call: usize) -> Step
 }
 
 // What a verdict counts as; a line for a case that differs, where it is to be shown.
-pub fn told(rt: &impl Print, number: u64, is_shown: bool, call: usize, v: Verdict) -> Step
+pub fn told(rt: &impl Print, number: u64, is_shown: bool, call: usize, v: Option<Alike>) -> Step
     ensures { result ≡ step_of v }
 {
     match v {
-        Verdict::Compared(a) => compared(rt, number, is_shown, call, a),
-        Verdict::Unknown => not_known(rt, number, is_shown, call),
+        Some(a) => compared(rt, number, is_shown, call, a),
+        None => not_known(rt, number, is_shown, call),
     }
 }
 

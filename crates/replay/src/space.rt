@@ -1,23 +1,18 @@
 // Working space that a call is lent beside its buffer: what was used of it must be zeros, the rest as it was.
 ghost use Rattle.std.specs.Prelude.{◌≡◌};
-ghost use Rattle.replay.specs.declared.call.Outcome.{Outcome};
 ghost use Rattle.replay.specs.Replies.{zeros, wiped, of_spaced};
 
-use crate::call::{Outcome, Reply};
+use crate::call::Reply;
 use crate::compare;
 use lumbrisse::reply;
 
 fn is_zero(s: &[u8]) -> bool
     ensures { result ≡ zeros s.now }
 {
-    let mut i = 0;
-    while i < s.len() {
-        let b = s[i];
-        if b == 0 {
-            i += 1;
-            continue;
+    for &b in s {
+        if b != 0 {
+            return false;
         }
-        return false;
     }
     true
 }
@@ -39,11 +34,11 @@ pub fn is_wiped(before: &[u8], after: &[u8], d: usize) -> bool
 }
 
 // A reply, and whether the working space is as it must be.
-pub fn of_spaced(r: reply::Reply, kept: bool) -> Outcome
-    ensures { result ≡ Outcome.Answered (of_spaced r kept) }
+pub fn of_spaced(r: reply::Reply, kept: bool) -> Option<Reply>
+    ensures { result ≡ Some (of_spaced r kept) }
 {
     if kept {
-        return Outcome::Answered(Reply {
+        return Some(Reply {
             number: r.number,
             place: r.place,
             count: r.count,
@@ -51,7 +46,7 @@ pub fn of_spaced(r: reply::Reply, kept: bool) -> Outcome
             tag: 0,
         });
     }
-    Outcome::Answered(Reply {
+    Some(Reply {
         number: r.number,
         place: r.place,
         count: r.count,

@@ -67,29 +67,25 @@ pub kept_start : (d : List ℕ) → Looked d (length d)
 unfolding Looked
 kept_start d = let e : take (length d) d ≡ d = take-length d in (rw e, rw e)
 
-module _ (d : List ℕ) (e : ℕ) (l : Looked d e) where
-  pub kept_end : e ≤ 0 → Kept d 0
-  unfolding Looked trimmed zeros
-  kept_end h = let z : e ≡ 0 = omega arith in record { front = rw z at l.0; none = rw z at l.1 }
+pub kept_end : (d : List ℕ) (e : ℕ) → Looked d e → e ≤ 0 → Kept d 0
+unfolding Looked trimmed zeros
+kept_end d e l h = let z : e ≡ 0 = omega arith in record { front = rw z at l.0; none = rw z at l.1 }
 
-  module _ (h : 0 < e) (m : e ≤ length d) where
-    last_is : take e d ≡ take (e - 1) d ++ (get_or d (e - 1) 0 ∷ [])
-    last_is =
-        let y : e ≡ suc (e - 1) = omega arith in
-        ap (λ (j : ℕ). take j d) y ∙ take-suc d (e - 1) 0 (omega arith)
+module _ (d : List ℕ) (i : ℕ) (l : Looked d (i + 1)) (m : i < length d) where
+  last_is : take (i + 1) d ≡ take i d ++ (get_or d i 0 ∷ [])
+  last_is = let y : i + 1 ≡ suc i = omega arith in ap (λ (j : ℕ). take j d) y ∙ take-suc d i 0 m
 
-    pub kept_on : get_or d (e - 1) 0 ≡ 48 → Looked d (e - 1)
-    unfolding Looked
-    kept_on f =
-        (l.0 ∙ rw (last_is, f) (trimmed_zero (take (e - 1) d)), l.1 ∙ rw (last_is, f) (zeros_zero (take (e - 1) d)))
+  pub kept_on : get_or d i 0 ≡ 48 → Looked d i
+  unfolding Looked
+  kept_on f = (l.0 ∙ rw (last_is, f) (trimmed_zero (take i d)), l.1 ∙ rw (last_is, f) (zeros_zero (take i d)))
 
-    pub kept_stop : (get_or d (e - 1) 0 ≡ 48 → ⊥) → Kept d e
-    unfolding Looked
-    kept_stop f =
-        record {
-          front = l.0 ∙ ap trimmed last_is ∙ trimmed_other (take (e - 1) d) (get_or d (e - 1) 0) f ∙ sym last_is;
-          none = l.1 ∙ ap zeros last_is ∙ zeros_other (take (e - 1) d) (get_or d (e - 1) 0) f ∙ sym (ne_eqb e 0 (λ z. omega arith));
-        }
+  pub kept_stop : (get_or d i 0 ≡ 48 → ⊥) → Kept d (i + 1)
+  unfolding Looked
+  kept_stop f =
+      record {
+        front = l.0 ∙ ap trimmed last_is ∙ trimmed_other (take i d) (get_or d i 0) f ∙ sym last_is;
+        none = l.1 ∙ ap zeros last_is ∙ zeros_other (take i d) (get_or d i 0) f ∙ sym (ne_eqb (i + 1) 0 (λ z. omega arith));
+      }
 
 pub ruleset kept_laws = (kept_start, kept_end, kept_on, kept_stop)
 

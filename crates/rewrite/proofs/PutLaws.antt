@@ -3,10 +3,12 @@ use Prim.Native.Nat.{ℕ, zero, suc, ◌+◌, ◌-◌, ◌*◌, ◌^◌, ◌≤�
 use native.Mathlib.Omega.{arith}
 use mathlib.Core.Path.{◌≡◌, refl, sym, ◌∙◌, ap, subst}
 use mathlib.Core.List.{List, [], ◌∷◌, ◌++◌}
+use mathlib.Core.Logic.{⊎_elim}
 use lib.ListN.{length, set, take, drop, length-set, length-append, length-drop, drop_of_length-le}
 use lib.Seq.{take_all, sets, length-sets}
 use Rattle.decimal.specs.Exact.{largest}
 use Rattle.text.specs.Bytes.{between}
+use Rattle.row.proofs.PourLaws.{le_or_lt}
 use Rattle.row.proofs.FieldLaws.{sets_append}
 use Rattle.rewrite.specs.steps.Putting.{Put}
 
@@ -69,19 +71,20 @@ module _ (s : List ℕ) (a e : ℕ) where
   span_empty : e ≤ a → between s a e ≡ []
   span_empty h = ap (λ (n : ℕ). take n (drop a s)) {x = e - a} {y = 0} (omega arith)
 
-  span_cut : length s < e → between s a e ≡ take (length s - a) (drop a s)
-  span_cut h =
-      let l : length (drop a s) ≤ e - a = rw length-drop (omega arith) in
-      let m : length (drop a s) ≤ length s - a = rw length-drop (omega arith) in
-      take_all (e - a) (drop a s) l ∙ sym (take_all (length s - a) (drop a s) m)
+  span_none : min e (length s) ≤ a → between s a e ≡ []
+  span_none h = ⊎_elim (λ (l : e ≤ length s). span_empty (omega arith)) (λ (l : length s < e). span_past (omega arith)) (le_or_lt e (length s))
 
-  pub put_past : (t : List ℕ) (at : ℕ) → length s ≤ a → Put t at (between s a e) t at
-  put_past t at h = subst (λ (x : List ℕ). Put t at x t at) (sym (span_past h)) (put_none t at)
+  span_cut : between s a e ≡ take (min e (length s) - a) (drop a s)
+  span_cut =
+      ⊎_elim
+      (λ (l : e ≤ length s). ap (λ (n : ℕ). take n (drop a s)) {x = e - a} {y = min e (length s) - a} (omega arith))
+      (λ (l : length s < e). take_all (e - a) (drop a s) (rw length-drop (omega arith)) ∙ sym (take_all (min e (length s) - a) (drop a s) (rw length-drop (omega arith))))
+      (le_or_lt e (length s))
 
-  pub put_empty : (t : List ℕ) (at : ℕ) → e ≤ a → Put t at (between s a e) t at
-  put_empty t at h = subst (λ (x : List ℕ). Put t at x t at) (sym (span_empty h)) (put_none t at)
+  pub put_empty : (t : List ℕ) (at : ℕ) → min e (length s) ≤ a → Put t at (between s a e) t at
+  put_empty t at h = subst (λ (x : List ℕ). Put t at x t at) (sym (span_none h)) (put_none t at)
 
-  pub put_cut : (t : List ℕ) (at : ℕ) (u : List ℕ) (r : ℕ) → length s < e → Put t at (take (length s - a) (drop a s)) u r → Put t at (between s a e) u r
-  put_cut t at u r h p = subst (λ (x : List ℕ). Put t at x u r) (sym (span_cut h)) p
+  pub put_cut : (t : List ℕ) (at : ℕ) (u : List ℕ) (r : ℕ) → Put t at (take (min e (length s) - a) (drop a s)) u r → Put t at (between s a e) u r
+  put_cut t at u r p = subst (λ (x : List ℕ). Put t at x u r) (sym span_cut) p
 
-pub ruleset span_laws = (put_past, put_empty, put_cut)
+pub ruleset span_laws = (put_empty, put_cut)

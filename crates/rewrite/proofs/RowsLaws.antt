@@ -1,4 +1,7 @@
 -- The loop over the rows, and the two passes.
+use Rattle.text.specs.declared.stop.Refused.{Refused}
+use Rattle.text.specs.Refusals.{refused_with}
+use Rattle.std.specs.Prelude.{Err, Ok, Result}
 use Prim.Native.Nat.{ℕ, suc, ◌+◌, ◌-◌, ◌*◌, ◌^◌, ◌≤◌, ◌<◌, min}
 use native.Mathlib.Nat.{zero-add}
 use native.Mathlib.Omega.{arith}
@@ -6,8 +9,6 @@ use mathlib.Core.Path.{◌≡◌, refl, sym, ◌∙◌, ap, subst}
 use mathlib.Core.Bool.{Bool, true, false, cond}
 use mathlib.Core.List.{List, [], ◌∷◌, ◌++◌, append_assoc}
 use borrow.Author.Tests.{le-leb, lt-leb, lt-ltb, le-ltb}
-use mir.Syntax.{w64}
-use mir.Val.{Fits}
 use lib.Dec.{ltb, leb}
 use lib.ListN.{length, take, drop}
 use lib.Seq.{drop-drop}
@@ -19,7 +20,6 @@ use Rattle.text.proofs.Steps.{rest_of}
 use Rattle.layout.specs.Meaning.{Item, texted, naming, item_of, meaning}
 use Rattle.layout.specs.Written.{head_text, detail_text, closing, kind_of, printed, no_item}
 use Rattle.row.proofs.FieldLaws.{sets_front}
-use Rattle.rewrite.specs.declared.write.Answer.{Answer}
 use Rattle.rewrite.specs.steps.Putting.{Put}
 use Rattle.rewrite.specs.steps.Pieces.{no_row, front, Flagged, AllFlagged, piece_text, kind_now}
 use Rattle.rewrite.specs.steps.Pouring.{Going, Pours}
@@ -59,19 +59,19 @@ module _ (kind k : ℕ) where
 
 pub ruleset kind_laws = (now_entry, now_detail)
 
--- ---- the row at a place, where rows are left there
+-- ---- row i of the first n rows
 
-module _ (t : List ℕ) (i left : ℕ) (x : Row) where
-  pub row_none : left ≡ 0 → x ≡ no_row → x ≡ front (rows_in left (drop i t))
+module _ (t : List ℕ) (i n : ℕ) (x : Row) where
+  pub row_none : n ≤ i → x ≡ no_row → x ≡ front (rows_in (n - i) (drop (i * width) t))
   unfolding rows_in
-  row_none h e = e ∙ rw h
+  row_none h e = let z : n - i ≡ 0 = omega arith in e ∙ rw z
 
-  first_row : (m : ℕ) → left ≡ suc m → x ≡ row_in (drop i t) → x ≡ front (rows_in left (drop i t))
+  first_row : (m : ℕ) → n - i ≡ suc m → x ≡ row_in (drop (i * width) t) → x ≡ front (rows_in (n - i) (drop (i * width) t))
   unfolding rows_in
   first_row m h e = e ∙ rw h
 
-  pub row_there : (left ≡ 0 → ⊥) → x ≡ row_in (take (length t - i) (drop i t)) → x ≡ front (rows_in left (drop i t))
-  row_there z e = let m : left ≡ suc (left - 1) = omega arith in first_row (left - 1) m (e ∙ ap row_in (rest_of t i))
+  pub row_there : i < n → x ≡ row_in (take (length t - i * width) (drop (i * width) t)) → x ≡ front (rows_in (n - i) (drop (i * width) t))
+  row_there h e = let m : n - i ≡ suc (n - i - 1) = omega arith in first_row (n - i - 1) m (e ∙ ap row_in (rest_of t (i * width)))
 
 pub ruleset row_laws = (row_none, row_there)
 
@@ -95,57 +95,51 @@ unfolding item_of texted naming spanned
 no_item_lem s = refl
 
 -- the first of the rows that are left, and the others
-rows_more : (m i : ℕ) (t : List ℕ) → rows_in (suc m) (drop i t) ≡ front (rows_in (suc m) (drop i t)) ∷ rows_in m (drop (i + width) t)
+rows_more : (m i : ℕ) (t : List ℕ) → rows_in (suc m) (drop (i * width) t) ≡ front (rows_in (suc m) (drop (i * width) t)) ∷ rows_in m (drop ((i + 1) * width) t)
 unfolding rows_in
-rows_more m i t = ap (λ (z : List ℕ). row_in (drop i t) ∷ rows_in m z) (drop-drop width i t)
+rows_more m i t =
+    let e : i * width + width ≡ (i + 1) * width = omega arith in
+    ap (λ (z : List ℕ). row_in (drop (i * width) t) ∷ rows_in m z) (drop-drop width (i * width) t ∙ ap (λ (z : ℕ). drop z t) e)
 
 front_flagged : (xs : List Row) → AllFlagged xs → Flagged (front xs)
 front_flagged [] h = record { low = λ e. omega arith }
 front_flagged (x ∷ xs) h = h.0
 
 module _ (s t : List ℕ) (n : ℕ) (o : List ℕ) (h : (n * width ≤ length t) × AllFlagged (rows_in n t)) where
-  pub rows_room : 0 + n * width ≤ length t
-  rows_room = omega (arith, h.0)
-
-  pub rows_start : (prev x : Row) → prev ≡ no_row → x ≡ front (rows_in n (drop 0 t)) → Going s t n o o n 0 0 0 prev x
+  pub rows_start : (prev x : Row) → prev ≡ no_row → x ≡ front (rows_in (n - 0) (drop (0 * width) t)) → Going s t n o o 0 0 0 prev x
   rows_start prev x e f =
+      let c : rows_in (n - 0) (drop (0 * width) t) ≡ rows_in n t = ap (λ (j : ℕ). rows_in j t) {x = n - 0} {y = n} (omega arith) in
       record {
-        on = λ v q p. subst (λ (z : Item). Put o 0 (printed 0 z (meaning s (rows_in n t))) v q) (ap (item_of s) e ∙ no_item_lem s) p;
+        on = λ v q p. subst (λ (z : Item). Put o 0 (printed 0 z (meaning s (rows_in n t))) v q) (ap (item_of s) e ∙ no_item_lem s)
+            (subst (λ (z : List Row). Put o 0 (printed 0 (item_of s prev) (meaning s z)) v q) c p);
         first = f;
-        flags = h.1;
+        flags = subst AllFlagged (sym c) h.1;
         same = refl;
-        room = omega (arith, h.0);
       }
 
-module _ (s t : List ℕ) (n : ℕ) (o : List ℕ) (out : List ℕ) (left i at k : ℕ) (prev x : Row) (g : Going s t n o out left i at k prev x) where
-  pub rows_end : (v : List ℕ) (q : ℕ) → left ≤ 0 → Put out at (closing k) v q → Put o 0 (printed 0 no_item (meaning s (rows_in n t))) v q
+module _ (s t : List ℕ) (n : ℕ) (o : List ℕ) (out : List ℕ) (i at k : ℕ) (prev x : Row) (g : Going s t n o out i at k prev x) where
+  pub rows_end : (v : List ℕ) (q : ℕ) → n ≤ i → Put out at (closing k) v q → Put o 0 (printed 0 no_item (meaning s (rows_in n t))) v q
   unfolding printed rows_in meaning
   rows_end v q h p =
-      let y : 0 ≡ left = omega arith in
-      g.on v q (subst (λ (j : ℕ). Put out at (printed k (item_of s prev) (meaning s (rows_in j (drop i t)))) v q) y p)
+      let y : 0 ≡ n - i = omega arith in
+      g.on v q (subst (λ (j : ℕ). Put out at (printed k (item_of s prev) (meaning s (rows_in j (drop (i * width) t)))) v q) y p)
 
   pub rows_flagged : Flagged x
-  rows_flagged = subst Flagged (sym g.first) (front_flagged (rows_in left (drop i t)) g.flags)
+  rows_flagged = subst Flagged (sym g.first) (front_flagged (rows_in (n - i) (drop (i * width) t)) g.flags)
 
-  module _ (h : 0 < left) where
-    pub place_fits : length t * 1 < 2 ^ 63 → Fits w64 (i + width)
-    place_fits l = record { fits = omega (arith, g.room) }
-
-    pub next_room : i + width + (left - 1) * width ≤ length t
-    next_room = omega (arith, g.room)
-
-    all_left : (m : ℕ) → left ≡ suc m → rows_in left (drop i t) ≡ x ∷ rows_in m (drop (i + width) t)
+  module _ (h : i < n) where
+    all_left : (m : ℕ) → n - i ≡ suc m → rows_in (n - i) (drop (i * width) t) ≡ x ∷ rows_in m (drop ((i + 1) * width) t)
     all_left m y =
-        ap (λ (j : ℕ). rows_in j (drop i t)) y ∙ rows_more m i t
-        ∙ ap (λ (z : Row). z ∷ rows_in m (drop (i + width) t)) (ap (λ (j : ℕ). front (rows_in j (drop i t))) (sym y) ∙ sym g.first)
+        ap (λ (j : ℕ). rows_in j (drop (i * width) t)) y ∙ rows_more m i t
+        ∙ ap (λ (z : Row). z ∷ rows_in m (drop ((i + 1) * width) t)) (ap (λ (j : ℕ). front (rows_in j (drop (i * width) t))) (sym y) ∙ sym g.first)
 
-    pub rows_on : (next : Row) (v : List ℕ) (q j : ℕ) → next ≡ front (rows_in (left - 1) (drop (i + width) t))
-        → Put out at (piece_text k (item_of s prev) (item_of s x) next.kind) v q → j ≡ kind_now x.kind k → Going s t n o v (left - 1) (i + width) q j x next
+    pub rows_on : (next : Row) (v : List ℕ) (q j : ℕ) → next ≡ front (rows_in (n - (i + 1)) (drop ((i + 1) * width) t))
+        → Put out at (piece_text k (item_of s prev) (item_of s x) next.kind) v q → j ≡ kind_now x.kind k → Going s t n o v (i + 1) q j x next
     rows_on next v q j en p ej =
-        let m = left - 1 in
-        let xs = rows_in m (drop (i + width) t) in
-        let y : left ≡ suc m = omega arith in
-        let c : rows_in left (drop i t) ≡ x ∷ xs = all_left m y in
+        let m = n - (i + 1) in
+        let xs = rows_in m (drop ((i + 1) * width) t) in
+        let y : n - i ≡ suc m = omega arith in
+        let c : rows_in (n - i) (drop (i * width) t) ≡ x ∷ xs = all_left m y in
         let f : next.kind ≡ kind_of (meaning s xs) = ap (λ (z : Row). z.kind) en ∙ sym (kind_front s xs) in
         record {
           on = λ (w : List ℕ) (l : ℕ) (z : Put v q (printed j (item_of s x) (meaning s xs)) w l).
@@ -153,7 +147,6 @@ module _ (s t : List ℕ) (n : ℕ) (o : List ℕ) (out : List ℕ) (left i at k
           first = en;
           flags = (subst AllFlagged c g.flags).1;
           same = p.same ∙ g.same;
-          room = next_room;
         }
       where
         step : (xs : List Row) (next : Row) (v : List ℕ) (q j : ℕ) (w : List ℕ) (l : ℕ) → next.kind ≡ kind_of (meaning s xs)
@@ -170,7 +163,7 @@ module _ (s t : List ℕ) (n : ℕ) (o : List ℕ) (out : List ℕ) (left i at k
                 whole_step : (xs : List Row) → printed k (item_of s prev) (item_of s x ∷ meaning s xs) ≡ piece_text k (item_of s prev) (item_of s x) (kind_of (meaning s xs)) ++ printed (kind_now x.kind k) (item_of s x) (meaning s xs)
                 whole_step xs = printed_step k (item_of s prev) (item_of s x) (meaning s xs) ∙ ap (λ (d : ℕ). piece_text k (item_of s prev) (item_of s x) (kind_of (meaning s xs)) ++ printed (kind_now d k) (item_of s x) (meaning s xs)) (item_kind s x)
 
-pub ruleset rows_laws = (rows_room, rows_start, rows_end, rows_flagged, place_fits, next_room, rows_on)
+pub ruleset rows_laws = (rows_start, rows_end, rows_flagged, rows_on)
 
 -- ---- the two passes
 
@@ -178,12 +171,12 @@ module _ (w o a b : List ℕ) (need : ℕ) (p : Put a 0 w b need) where
   need_is : need ≡ min (length w) largest
   need_is = p.next (omega arith) ∙ rw (zero-add (length w))
 
-  pub pour_short : (r : Answer) → r ≡ Answer.Refusal 9 0 need → length o < need → Pours w o r o
+  pub pour_short : (r : Result ℕ Refused) → r ≡ Err (refused_with 9 0 need) → length o < need → Pours w o r o
   pour_short r e h =
       let q : leb (length w) (length o) ≡ false = lt-leb (length w) (length o) (omega (arith, need_is)) in
       record { answer = e ∙ rw (q, need_is); left = rw q }
 
-  pub pour_all : (u : List ℕ) (r : ℕ) → need ≤ length o → length o * 1 < 2 ^ 63 → Put o 0 w u r → Pours w o (Answer.Bytes need) u
+  pub pour_all : (u : List ℕ) (r : ℕ) → need ≤ length o → length o * 1 < 2 ^ 63 → Put o 0 w u r → Pours w o (Ok need) u
   pour_all u r h z k =
       let e : need ≡ length w = omega (arith, need_is) in
       let l : length w ≤ length o = omega arith in

@@ -11,7 +11,6 @@ use crate::{number, put};
 use amount::kind;
 use row::table::Row;
 use row::writer;
-use text::bytes;
 
 // A space and a span's text.
 fn spaced(s: &[u8], a: usize, e: usize, out: &mut [u8], at: usize) -> usize
@@ -175,7 +174,7 @@ fn posting(s: &[u8], x: Row, out: &mut [u8], at: usize) -> usize
     if x.p == 0 {
         return put::span(s, x.start, x.end, out, one);
     }
-    let two = put::put_two(out, one, bytes::narrow(x.p), b' ');
+    let two = put::put_two(out, one, x.p as u8, b' ');
     put::span(s, x.start, x.end, out, two)
 }
 

@@ -32,13 +32,9 @@ fn whole(k: usize, n: usize, out: &mut [u8], at: usize) -> usize
 fn kept(d: &[u8]) -> usize
     ensures { Kept d.now result }
 {
-    let mut e = d.len();
-    while 0 < e {
-        let i = e - 1;
-        if d[i] == b'0' {
-            e = i;
-        } else {
-            return e;
+    for i in (0..d.len()).rev() {
+        if d[i] != b'0' {
+            return i + 1;
         }
     }
     0

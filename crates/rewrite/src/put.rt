@@ -42,14 +42,9 @@ pub fn copy(from: &[u8], out: &mut [u8], at: usize) -> usize
 pub fn span(s: &[u8], a: usize, e: usize, out: &mut [u8], at: usize) -> usize
     ensures { Put out.old at (between s.now a e) out.new result }
 {
-    if s.len() <= a {
+    let end = e.min(s.len());
+    if end <= a {
         return at;
     }
-    if e <= a {
-        return at;
-    }
-    if s.len() < e {
-        return copy(&s[a..], out, at);
-    }
-    copy(&s[a..e], out, at)
+    copy(&s[a..end], out, at)
 }

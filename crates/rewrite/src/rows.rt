@@ -1,5 +1,5 @@
 // All rows of a table, written one after the other.
-ghost use Rattle.std.specs.Prelude.{◌≡◌, ◌+◌, ◌*◌, ◌≤◌, length, drop};
+ghost use Rattle.std.specs.Prelude.{◌≡◌, ◌*◌, ◌-◌, ◌≤◌, length, drop};
 ghost use Rattle.row.specs.Row.{width, rows_in};
 ghost use Rattle.layout.specs.Meaning.{item_of, meaning};
 ghost use Rattle.layout.specs.Written.{printed, no_item};
@@ -25,15 +25,15 @@ fn none() -> Row
     }
 }
 
-// The row at place i of a table, where rows are left there.
-fn row_at(t: &[u8], i: usize, left: usize) -> Row
-    requires { i + left * width ≤ length t.now }
-    ensures { result ≡ front (rows_in left (drop i t.now)) }
+// Row i of the first n rows of a table, or none behind them.
+fn row_at(t: &[u8], i: usize, n: usize) -> Row
+    requires { n * width ≤ length t.now }
+    ensures { result ≡ front (rows_in (n - i) (drop (i * width) t.now)) }
 {
-    if left == 0 {
+    if n <= i {
         return none();
     }
-    table::row_in(&t[i..])
+    table::row_in(&t[i * WIDTH..])
 }
 
 // What a row writes, where k is the kind of the entry that is being written.
@@ -63,16 +63,12 @@ pub fn rows(s: &[u8], t: &[u8], n: usize, out: &mut [u8]) -> usize
     requires { (n * width ≤ length t.now) × AllFlagged (rows_in n t.now) }
     ensures { Put out.old 0 (printed 0 no_item (meaning s.now (rows_in n t.now))) out.new result }
 {
-    let mut left = n;
-    let mut i = 0;
     let mut at = 0;
     let mut k = 0;
     let mut prev = none();
     let mut x = row_at(t, 0, n);
-    while 0 < left {
-        left -= 1;
-        i += WIDTH;
-        let next = row_at(t, i, left);
+    for i in 0..n {
+        let next = row_at(t, i + 1, n);
         at = piece(s, k, prev, x, next.kind, out, at);
         k = kind_now(x.kind, k);
         prev = x;

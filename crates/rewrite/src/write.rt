@@ -10,66 +10,44 @@ use crate::rows;
 use ledger::read;
 use row::table::WIDTH;
 use row::work;
-
-// A buffer is too short: the output at place 0, the working space at place 1.
-const TOO_SHORT: usize = 9;
-
-// So many bytes were written; or a refusal.
-#[derive(Clone, Copy)]
-pub enum Answer {
-    Bytes(usize),
-    Refusal {
-        number: usize,
-        place: usize,
-        count: usize,
-    },
-}
-
-fn refusal(number: usize, place: usize, count: usize) -> Answer
-    ensures { result ≡ Answer.Refusal number place count }
-{
-    Answer::Refusal {
-        number,
-        place,
-        count,
-    }
-}
+use text::stop::{Refused, TOO_SHORT};
 
 // The rows are in the working space: the first pass counts, the second writes.
-fn poured(ledger: &[u8], output: &mut [u8], work: &[u8], n: usize) -> Answer
+fn poured(ledger: &[u8], output: &mut [u8], work: &[u8], n: usize) -> Result<usize, Refused>
     requires { (n * width ≤ length work.now) × AllFlagged (rows_in n work.now) }
     ensures { Pours (written ledger.now (rows_in n work.now)) output.old result output.new }
 {
     let mut none = [0u8; 1];
     let need = rows::rows(ledger, work, n, &mut none);
     if output.len() < need {
-        return refusal(TOO_SHORT, 0, need);
+        return Err(Refused {
+            number: TOO_SHORT,
+            place: 0,
+            count: need,
+        });
     }
     rows::rows(ledger, work, n, output);
-    Answer::Bytes(need)
+    Ok(need)
 }
 
 // Writes a ledger afresh. A refusal leaves every byte of the output; what was used of the working space is cleared.
-pub fn write(ledger: &[u8], output: &mut [u8], work: &mut [u8]) -> Answer
+// Refusal 9 has place 0 for the output, 1 for the working space.
+pub fn write(ledger: &[u8], output: &mut [u8], work: &mut [u8]) -> Result<usize, Refused>
     ensures { Rewrites ledger.now output.old work.old result output.new work.new }
 {
-    let a = read::read(ledger, work);
-    match a {
-        read::Answer::Refusal {
-            number,
-            place,
-            count,
-        } => {
-            // Only a table too short has a count.
-            if count == 0 {
-                return refusal(number, place, 0);
-            }
-            refusal(TOO_SHORT, 1, count * WIDTH)
+    let n = match read::read(ledger, work) {
+        Ok(n) => n,
+        // Only a table too short has a count, of rows.
+        Err(refused) if 0 < refused.count => {
+            return Err(Refused {
+                number: TOO_SHORT,
+                place: 1,
+                count: refused.count * WIDTH,
+            });
         }
-        read::Answer::Rows(n) => {
-            let r = poured(ledger, output, work, n);
-            work::clear(work, n * WIDTH);
-            r
-        }
-    }
+        Err(refused) => return Err(refused),
+    };
+    let poured = poured(ledger, output, work, n);
+    work::clear(work, n * WIDTH);
+    poured
 }

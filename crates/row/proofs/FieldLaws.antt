@@ -2,7 +2,7 @@
 use mathlib.Core.Path.{◌≡◌, refl, sym, ap, ◌∙◌}
 use mathlib.Core.List.{List, [], ◌∷◌, ◌++◌}
 use Prim.Native.Nat.{ℕ, zero, suc, ◌+◌, ◌-◌, ◌*◌, ◌/◌, ◌%◌, ◌^◌, ◌<◌, ◌≤◌}
-use native.Mathlib.Nat.{zero-add, add-zero, add-suc, suc-add, pow-suc, pow-succ', one-le-pow, pow-le-pow_right, mod-one, div-one, sub_self, div-div-eq-div-mul}
+use native.Mathlib.Nat.{zero-add, add-zero, add-suc, suc-add, pow-suc, pow-succ', one-le-pow, pow-le-pow_right, mod-one, div-one, div-div-eq-div-mul}
 use native.Mathlib.Numerals.{add-one}
 use native.Mathlib.Omega.{arith}
 use lib.Arith.{mod-mul, digits_div, digits_mod}
@@ -63,13 +63,6 @@ un_lt_7 : (t : List ℕ) → ((i : ℕ) → Fits w8 (get_or t i 0)) → (a k : �
 un_lt_7 t h a k l =
     omega (arith, un_lt (drop a t) (λ i. rw get_or-drop (omega (arith, h (a + i)))) k, pow-le-pow_right {n = 256} (lit< tt) l)
 
-pub get_cast : (t : List ℕ) (i : ℕ) → ((i : ℕ) → Fits w8 (get_or t i 0)) → Fits w64 (get_or t i 0)
-get_cast t i h = omega (arith, h i)
-
--- no byte is read yet
-pub get_none : (t : List ℕ) (at width : ℕ) → 0 ≡ un (take (width - width) (drop (at + width) t))
-get_none t at width = rw sub_self
-
 -- a byte below the number of those behind it
 un_byte : (t : List ℕ) (i k : ℕ) {j : ℕ} → j ≡ i + 1 → i < length t → un (take (suc k) (drop i t)) ≡ un (take k (drop j t)) * 256 + get_or t i 0
 un_byte t i k e h = rw (e, add-one, drop-cons t i 0 h)
@@ -77,17 +70,11 @@ un_byte t i k e h = rw (e, add-one, drop-cons t i 0 h)
 -- the bytes from `left` on were read, and x is their number
 module _ (t : List ℕ) (at width left x : ℕ) (e : x ≡ un (take (width - left) (drop (at + left) t))) where
   -- the byte before them comes below them
-  pub get_byte : 0 < left → left ≤ width → at + width ≤ length t
-      → x * 256 + get_or t (at + (left - 1)) 0 ≡ un (take (width - (left - 1)) (drop (at + (left - 1)) t))
-  get_byte h l r =
+  pub get_byte : {b : ℕ} → b ≡ get_or t (at + (left - 1)) 0 → 0 < left → left ≤ width → at + width ≤ length t
+      → x * 256 + b ≡ un (take (width - (left - 1)) (drop (at + (left - 1)) t))
+  get_byte u h l r =
       let a : width - (left - 1) ≡ suc (width - left) = omega arith in
-      rw (e, a, un_byte t (at + (left - 1)) (width - left) {j = at + left} (omega arith) (omega arith))
-
-  pub get_end : left ≤ 0 → x ≡ un (take width (drop at t))
-  get_end h =
-      let a : width - left ≡ width = omega arith in
-      let b : at + left ≡ at = omega arith in
-      rw (← a, ← b) e
+      rw (u, e, a, un_byte t (at + (left - 1)) (width - left) {j = at + left} (omega arith) (omega arith))
 
   module _ (h : (i : ℕ) → Fits w8 (get_or t i 0)) (g : 0 < left) (l : left ≤ width) (w : width ≤ 8) where
     below : x < 256 ^ 7
@@ -140,7 +127,7 @@ module _ (t : List ℕ) (h : (i : ℕ) → Fits w8 (get_or t i 0)) (at : ℕ) wh
 
 pub ruleset halves = (get_halves, half_high, halves_fit)
 
-pub ruleset getting = (get_cast, get_none, get_byte, get_end, get_wide, get_more)
+pub ruleset getting = (get_byte, get_wide, get_more)
 
 -- what reading finds of what was written: the number's low bytes
 pub un_le : (k x : ℕ) → un (le k x) ≡ x % 256 ^ k

@@ -10,7 +10,7 @@ use mathlib.Core.List.{List, [], ◌∷◌, ◌++◌}
 use lib.Dec.{eqb, ltb}
 use borrow.Author.Tests.{lt-ltb, not-true, not-false}
 use lib.ListN.{length, get_or, take, drop, length-take}
-use lib.Seq.{drop-cons, take-suc, take_all, take-add}
+use lib.Seq.{drop-cons, take-suc, take_all}
 use mir.Syntax.{w8, w64}
 use mir.Val.{Fits}
 use Rattle.text.specs.Bytes.{in_line}
@@ -107,22 +107,6 @@ module _ (s : List ℕ) where
     pub feeds_all : length s ≤ i → n ≡ feeds s
     feeds_all h = e ∙ ap feeds (take_all i s h)
 
-    pub feeds_few : length s ≤ i → n ≤ length s
-    feeds_few h = rw (feeds_all h) (feeds_le s)
-
-    -- those from i to j too
-    module _ (j x m : ℕ) (h : i < j) (ex : x ≡ feeds (take (j - i) (drop i s))) (em : m ≡ x) where
-      pub part_on : n + m ≡ feeds (take j s)
-      part_on =
-          let k : i + (j - i) ≡ j = omega arith in
-          rw (e, em, ex) (sym (feeds_append (take i s) (take (j - i) (drop i s))) ∙ ap feeds (sym (take-add i (j - i) s) ∙ ap (λ (x : ℕ). take x s) k))
-
-      pub part_room : j ≤ length s → length s < 2 ^ 64 → Fits w64 (n + m)
-      part_room l w = record { fits = omega (arith, part_on, feeds_le (take j s), length-take j s) }
-
-    pub part_short : (j : ℕ) → j ≤ i + 240 → length (take (j - i) (drop i s)) ≤ 255
-    part_short j l = omega (arith, length-take (j - i) (drop i s))
-
   -- in a run of a line's bytes stands no line feed
   feeds_run : (i e : ℕ) → e ≡ run_to in_line s i → (k : ℕ) → i ≤ k → k ≤ e → feeds (take k s) ≡ feeds (take i s)
   unfolding in_line
@@ -175,9 +159,19 @@ pub none_counted : (s : List ℕ) → 0 ≡ feeds (take 0 s)
 unfolding feeds
 none_counted s = refl
 
-pub ruleset counting = (none_counted, feeds_on, feeds_room, feeds_all, feeds_few)
+pub ruleset counting = (none_counted, feeds_on, feeds_room, feeds_all)
 
-pub ruleset parting = (none_counted, part_on, part_room, part_short, feeds_all, feeds_few)
+-- part by part: n were counted before all that is left, of which u is the next part
+module _ (s : List ℕ) (n : ℕ) (all : List ℕ) (e : n + feeds all ≡ feeds s) where
+  module _ (u rest : List ℕ) (m : ℕ) (p : all ≡ u ++ rest) (em : m ≡ feeds u) where
+    pub part_on : n + m + feeds rest ≡ feeds s
+    part_on = rw add_assoc (rw (p, feeds_append u rest, ← em) at e)
+
+    pub part_room : length s < 2 ^ 64 → Fits w64 (n + m)
+    part_room w = record { fits = omega (arith, part_on, feeds_le s) }
+
+  pub part_last : length all ≡ 0 → (n ≡ feeds s) × (n ≤ length s)
+  part_last h = (omega (arith, feeds_le all), omega (arith, feeds_le s))
 
 -- one byte
 module _ (b : ℕ) (t : Bool) (e : t ≡ eqb b 10) where

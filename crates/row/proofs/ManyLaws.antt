@@ -1,5 +1,9 @@
 -- Loops that write the rows of `many f` over a text of n bytes: what is left to do leads to what is asked. A loop that
 -- counts its turns has d of them left; one that does not goes on as if it had one more than bytes.
+use Rattle.text.specs.declared.stop.Stop.{Stop}
+use Rattle.std.specs.Prelude.{Err, Ok}
+use Rattle.text.specs.steps.Told.{Reading}
+use Rattle.text.specs.declared.stop.Cause.{Cause}
 use Prim.Native.Nat.{ℕ, zero, suc, ◌+◌, ◌-◌, ◌≤◌, ◌<◌}
 use native.Mathlib.Omega.{arith}
 use mathlib.Core.Path.{◌≡◌, refl, sym, ◌∙◌, ap, subst}
@@ -14,7 +18,6 @@ use Rattle.amount.specs.Details.{Rows}
 use Rattle.amount.proofs.RowCounts.{Fits, fits_at}
 use Rattle.row.specs.steps.Writing.{Writable, Did}
 use Rattle.row.specs.declared.writer.Out.{Out}
-use Rattle.row.specs.declared.writer.Ran.{Ran}
 use Rattle.row.proofs.OutLaws.{rows_outs}
 use Rattle.row.proofs.SureLaws.{sure_more, sure_many}
 use Rattle.row.proofs.DidLaws.{did_none, did_more, did_past, maybe_sure, was_read, was_miss, was_hard}
@@ -29,7 +32,7 @@ pub record Stepping (n : ℕ) (f : ℕ → Rows) : Type 0 where
 -- the loop's invariant at place i, where o is held and t is the table: whatever finishes the rest finishes what is
 -- asked
 pub record Turns (base n : ℕ) (f : ℕ → Rows) (a₀ : Rows) (o₀ : Out) (t₀ : List ℕ) (d i : ℕ) (o : Out) (t : List ℕ) : Type 0 where
-  pub lead : (u : List ℕ) (r : Ran) → Did base (many f d i) o t u r → Did base a₀ o₀ t₀ u r
+  pub lead : (u : List ℕ) (r : Reading Out) → Did base (many f d i) o t u r → Did base a₀ o₀ t₀ u r
   pub inside : i ≤ n
   pub few : o.rows ≤ i
   pub same : length t ≡ length t₀
@@ -50,7 +53,7 @@ module _ (n : ℕ) (f : ℕ → Rows) (i : ℕ) where
   unfolding maybe ◌and◌
   many_miss q = many_is n f i ∙ ap (λ (a : Rows). maybe i (a and many f n)) q
 
-  pub many_hard : (k p : ℕ) → f i ≡ Hard k p → many f (suc n) i ≡ Hard k p
+  pub many_hard : (k : Cause) (p : ℕ) → f i ≡ Hard k p → many f (suc n) i ≡ Hard k p
   unfolding maybe ◌and◌
   many_hard k p q = many_is n f i ∙ ap (λ (a : Rows). maybe i (a and many f n)) q
 
@@ -79,19 +82,19 @@ many_next f d i e ds h q =
     let z : d ≡ suc (d - 1) = omega arith in
     ap (λ (k : ℕ). many f k i) z ∙ many_is (d - 1) f i ∙ ap (λ (a : Rows). maybe i (a and many f (d - 1))) q ∙ ap (maybe i) (and_is (many f (d - 1)) e ds)
 
-many_halt : (f : ℕ → Rows) (d i k p : ℕ) → 0 < d → f i ≡ Hard k p → many f d i ≡ Hard k p
+many_halt : (f : ℕ → Rows) (d i : ℕ) (k : Cause) (p : ℕ) → 0 < d → f i ≡ Hard k p → many f d i ≡ Hard k p
 many_halt f d i k p h q = let z : d ≡ suc (d - 1) = omega arith in ap (λ (n : ℕ). many f n i) z ∙ many_hard (d - 1) f i k p q
 
 -- ---- a turn: r is what it answered, v the table that it left
 
 module _ (base n : ℕ) (f : ℕ → Rows) (a₀ : Rows) (o₀ : Out) (t₀ : List ℕ) (d i : ℕ) (o : Out) (t : List ℕ) (T : Turns base n f a₀ o₀ t₀ d i o t) where
   -- no turn is left
-  pub turns_out : d ≤ 0 → Did base a₀ o₀ t₀ t (Ran.To i o)
+  pub turns_out : d ≤ 0 → Did base a₀ o₀ t₀ t (Ok (i, o))
   unfolding many
-  turns_out h = let z : d ≡ 0 = omega arith in T.lead t (Ran.To i o) (rw z (did_none base o t i))
+  turns_out h = let z : d ≡ 0 = omega arith in T.lead t (Ok (i, o)) (rw z (did_none base o t i))
 
-  module _ (S : Stepping n f) (v : List ℕ) (r : Ran) (D : Did base (f i) o t v r) where
-    pub turns_next : (e : ℕ) (m : Out) → r ≡ Ran.To e m → length v ≡ length t → 0 < d → Turns base n f a₀ o₀ t₀ (d - 1) e m v
+  module _ (S : Stepping n f) (v : List ℕ) (r : Reading Out) (D : Did base (f i) o t v r) where
+    pub turns_next : (e : ℕ) (m : Out) → r ≡ Ok (e, m) → length v ≡ length t → 0 < d → Turns base n f a₀ o₀ t₀ (d - 1) e m v
     turns_next e m q l h =
         let z = was_read base o t v r (f i) e m D q in
         let ds = z.0 in
@@ -107,11 +110,11 @@ module _ (base n : ℕ) (f : ℕ → Rows) (a₀ : Rows) (o₀ : Out) (t₀ : Li
           same = l ∙ T.same;
         }
 
-    pub turns_stop : r ≡ Ran.Miss → Did base a₀ o₀ t₀ v (Ran.To i o)
-    turns_stop q = let z = was_miss base o t v r (f i) D q in T.lead v (Ran.To i o) (rw (many_none f d i z.0) (did_past base (To i []) o t v v (Ran.To i o) z.1 (did_none base o v i)))
+    pub turns_stop : r ≡ (Err Stop.Miss) → Did base a₀ o₀ t₀ v (Ok (i, o))
+    turns_stop q = let z = was_miss base o t v r (f i) D q in T.lead v (Ok (i, o)) (rw (many_none f d i z.0) (did_past base (To i []) o t v v (Ok (i, o)) z.1 (did_none base o v i)))
 
-    pub turns_halt : (k p : ℕ) (u : List ℕ) → r ≡ Ran.Hard k p → 0 < d → Did base a₀ o₀ t₀ u (Ran.Hard k p)
-    turns_halt k p u q h = T.lead u (Ran.Hard k p) (rw (many_halt f d i k p h (was_hard base o t v r (f i) k p D q)) refl)
+    pub turns_halt : (k : Cause) (p : ℕ) (u : List ℕ) → r ≡ Err (Stop.Hard k p) → 0 < d → Did base a₀ o₀ t₀ u (Err (Stop.Hard k p))
+    turns_halt k p u q h = T.lead u (Err (Stop.Hard k p)) (rw (many_halt f d i k p h (was_hard base o t v r (f i) k p D q)) refl)
 
 pub ruleset turns_laws = (turns_out, turns_next, turns_stop, turns_halt)
 
@@ -128,16 +131,16 @@ module _ (base n : ℕ) (f : ℕ → Rows) (a₀ : Rows) (o₀ : Out) (t₀ : Li
   pub runs_room : base ≤ size_limit → n ≤ size_limit → Writable 1 base o
   runs_room h l = (h, omega (arith, R.few, R.inside))
 
-  pub runs_done : Stepping n f → n ≤ i → Did base a₀ o₀ t₀ t (Ran.To i o)
+  pub runs_done : Stepping n f → n ≤ i → Did base a₀ o₀ t₀ t (Ok (i, o))
   runs_done S h =
       let e : i ≡ n = omega (arith, R.inside) in
-      R.lead t (Ran.To i o) (rw (many_none f (suc n) i (ap f e ∙ S.ends)) (did_none base o t i))
+      R.lead t (Ok (i, o)) (rw (many_none f (suc n) i (ap f e ∙ S.ends)) (did_none base o t i))
 
-  module _ (S : Stepping n f) (v : List ℕ) (r : Ran) (D : Did base (f i) o t v r) where
-    pub runs_less : (e : ℕ) (m : Out) → r ≡ Ran.To e m → n - e < n - i
+  module _ (S : Stepping n f) (v : List ℕ) (r : Reading Out) (D : Did base (f i) o t v r) where
+    pub runs_less : (e : ℕ) (m : Out) → r ≡ Ok (e, m) → n - e < n - i
     runs_less e m q = let z = was_read base o t v r (f i) e m D q in omega (arith, many_ends n f i S R.inside e z.0 z.1)
 
-    pub runs_turn : (e : ℕ) (m : Out) → r ≡ Ran.To e m → length v ≡ length t → Runs base n f a₀ o₀ t₀ e m v
+    pub runs_turn : (e : ℕ) (m : Out) → r ≡ Ok (e, m) → length v ≡ length t → Runs base n f a₀ o₀ t₀ e m v
     runs_turn e m q l =
         let k : suc n - 1 ≡ n = omega arith in
         let N = turns_next base n f a₀ o₀ t₀ (suc n) i o t R S v r D e m q l (omega arith) in
@@ -147,10 +150,10 @@ module _ (base n : ℕ) (f : ℕ → Rows) (a₀ : Rows) (o₀ : Out) (t₀ : Li
         ap (λ (d : ℕ). many f d e) k ∙ many_turns n f S.reach n (suc n) e b.1 (omega (arith, b)) (omega (arith, b)) in
         record { lead = λ u w y. N.lead u w (subst (λ (a : Rows). Did base a m v u w) (sym same-turns) y); inside = N.inside; few = N.few; same = N.same }
 
-    pub runs_stop : r ≡ Ran.Miss → Did base a₀ o₀ t₀ v (Ran.To i o)
+    pub runs_stop : r ≡ (Err Stop.Miss) → Did base a₀ o₀ t₀ v (Ok (i, o))
     runs_stop q = turns_stop base n f a₀ o₀ t₀ (suc n) i o t R S v r D q
 
-    pub runs_halt : (k p : ℕ) (u : List ℕ) → r ≡ Ran.Hard k p → Did base a₀ o₀ t₀ u (Ran.Hard k p)
+    pub runs_halt : (k : Cause) (p : ℕ) (u : List ℕ) → r ≡ Err (Stop.Hard k p) → Did base a₀ o₀ t₀ u (Err (Stop.Hard k p))
     runs_halt k p u q = turns_halt base n f a₀ o₀ t₀ (suc n) i o t R S v r D k p u q (omega arith)
 
 pub ruleset runs_laws = (runs_room, runs_done, runs_less, runs_turn, runs_stop, runs_halt)

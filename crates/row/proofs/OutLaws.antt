@@ -1,15 +1,11 @@
 -- Laws of what the row writer holds, and of details that were written.
+use Rattle.std.specs.Prelude.{None, Option, Some}
 use Prim.Native.Nat.{ℕ, ◌+◌}
 use native.Mathlib.Nat.{add-zero}
 use native.Mathlib.Omega.{arith}
 use mathlib.Core.Path.{◌≡◌, refl, sym, ◌∙◌, ap, subst}
-use mathlib.Core.Bool.{Bool, true, false}
 use mathlib.Core.List.{List, [], ◌∷◌, ◌++◌, map, map-append, append_assoc, append-nil}
-use lib.Dec.{eqb}
-use borrow.Author.Tests.{eq-eqb, ne_eqb}
 use lib.ListN.{length, length-map, drop}
-use Rattle.decimal.specs.declared.Value.{Value}
-use Rattle.decimal.specs.declared.Value.TheVariants.{Known, Refused}
 use Rattle.amount.specs.declared.detail.Detail.{Detail}
 use Rattle.row.specs.steps.Pouring.{pour_at}
 use Rattle.row.specs.steps.Writing.{laid, noted, outs, some_row, Poured, Room}
@@ -25,12 +21,7 @@ outs_append (d ∷ xs) ys o = outs_append xs ys (noted o d)
 -- a detail is one row more, whether its value is known or refused
 pub rows_noted : (o : Out) (d : Detail) → (noted o d).rows ≡ o.rows + 1
 unfolding noted
-rows_noted o d = go d.value refl (eqb o.bad 0) refl
-  where
-    go : (v : Value) → d.value ≡ v → (b : Bool) → eqb o.bad 0 ≡ b → (noted o d).rows ≡ o.rows + 1
-    go (Known x) e b f = rw e
-    go (Refused n) e true f = rw (e, f)
-    go (Refused n) e false f = rw (e, f)
+rows_noted o d = refl
 
 pub rows_outs : (ds : List Detail) (o : Out) → (outs o ds).rows ≡ o.rows + length ds
 unfolding outs
@@ -119,14 +110,15 @@ noted_room o m d e h = omega (arith, ap (λ (z : Out). z.rows) e, rows_noted o d
 
 -- ---- a row, and another, if it is one: p is held after the first, v is the table then
 
-module _ (base : ℕ) (o : Out) (t : List ℕ) (x n : Detail) (p : Out) (v : List ℕ) (e : p ≡ noted o x) (f : v ≡ pour_at o.rows (laid base x ∷ []) t) where
-  pub with_none : n.kind ≡ 0 → Wrote base o t (x ∷ some_row n) p v
+module _ (base : ℕ) (o : Out) (t : List ℕ) (x : Detail) (p : Out) (v : List ℕ) (e : p ≡ noted o x) (f : v ≡ pour_at o.rows (laid base x ∷ []) t) where
+  pub with_none : (y : Option Detail) → y ≡ None → Wrote base o t (x ∷ some_row y) p v
   unfolding some_row
-  with_none h = rw (eq-eqb n.kind 0 h) (wrote_one base o t x p v e f)
+  with_none y h = rw h (wrote_one base o t x p v e f)
 
-  pub with_one : (m : Out) (u : List ℕ) → (n.kind ≡ 0 → ⊥) → m ≡ noted p n → u ≡ pour_at p.rows (laid base n ∷ []) v → Wrote base o t (x ∷ some_row n) m u
+  pub with_one : (y : Option Detail) (n : Detail) (m : Out) (u : List ℕ) → y ≡ Some n → m ≡ noted p n → u ≡ pour_at p.rows (laid base n ∷ []) v
+      → Wrote base o t (x ∷ some_row y) m u
   unfolding some_row
-  with_one m u h q r =
-      rw (ne_eqb n.kind 0 h) (wrote_then base o t (x ∷ []) (n ∷ []) p m v u (wrote_one base o t x p v e f) (wrote_one base p v n m u q r))
+  with_one y n m u h q r =
+      rw h (wrote_then base o t (x ∷ []) (n ∷ []) p m v u (wrote_one base o t x p v e f) (wrote_one base p v n m u q r))
 
 pub ruleset with_laws = (noted_room, with_none, with_one)

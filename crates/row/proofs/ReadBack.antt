@@ -1,5 +1,7 @@
 -- A row as its bytes say it: each field modulo its width, and the row itself where its fields are held; rows at the
 -- front of a table.
+use Rattle.std.specs.Prelude.{Err, Ok}
+use Rattle.decimal.specs.Faults.{Value}
 use Prim.Native.Nat.{ℕ, zero, suc, ◌≤◌, ◌<◌}
 use native.Mathlib.Nat.{mod-eq_of_lt}
 use native.Mathlib.Omega.{arith}
@@ -10,8 +12,6 @@ use lib.IntN.{pos, neg_ℤ}
 use lib.ListN.{length, drop}
 use lib.Seq.{drop_at}
 use Rattle.decimal.specs.Exact.{limit, twos_of, word_limit}
-use Rattle.decimal.specs.declared.Value.{Value}
-use Rattle.decimal.specs.declared.Value.TheVariants.{Known, Refused}
 use Rattle.amount.proofs.ValueSizes.{Small}
 use Rattle.row.specs.declared.table.Row.{Row}
 use Rattle.row.specs.Field.{le, un, field_limit}
@@ -89,5 +89,5 @@ twos_low false n h = omega arith
 
 pub bits_low : (v : Value) → Small v → twos_of (millionths v) < word_limit
 unfolding millionths
-bits_low (Known d) h = twos_low d.minus d.size h.holds
-bits_low (Refused n) h = twos_low false 0 (omega arith)
+bits_low (Ok d) h = twos_low d.minus d.size h.holds
+bits_low (Err n) h = twos_low false 0 (omega arith)

@@ -1,4 +1,5 @@
 -- Laws of answers that are no miss.
+use Rattle.text.specs.declared.stop.Cause.{Cause}
 use Prim.Native.Nat.{ℕ, zero, suc}
 use mathlib.Core.List.{List}
 use Rattle.text.specs.Answer.{To, Miss, Hard, must, ◌else◌, more, ◌and◌, maybe, many}
@@ -7,9 +8,9 @@ use Rattle.amount.specs.declared.detail.Detail.{Detail}
 
 pub data Sure : Rows → Type 0 where
   sure_to : {e : ℕ} {ds : List Detail} → Sure (To e ds)
-  sure_hard : {k p : ℕ} → Sure (Hard k p)
+  sure_hard : {k : Cause} {p : ℕ} → Sure (Hard k p)
 
-pub sure_must : (n i : ℕ) (a : Rows) → Sure (must n i a)
+pub sure_must : (n : Cause) (i : ℕ) (a : Rows) → Sure (must n i a)
 unfolding must
 sure_must n i (To e ds) = sure_to
 sure_must n i Miss = sure_hard

@@ -1,5 +1,6 @@
 -- Laws of the sweep that sets the lines of rows in a table.
-use Prim.Native.Nat.{ℕ, zero, suc, ◌+◌, ◌-◌, ◌≤◌, ◌<◌}
+use Prim.Native.Nat.{ℕ, zero, suc, ◌+◌, ◌-◌, ◌*◌, ◌/◌, ◌≤◌, ◌<◌, min}
+use native.Mathlib.Decide.{dec_lt}
 use native.Mathlib.Nat.{mod-eq_of_lt}
 use native.Mathlib.Numerals.{sub-one}
 use native.Mathlib.Omega.{arith}
@@ -82,7 +83,7 @@ stored_at s t x z r i start number et ex ez es el eu = rw (eu, el, es, ← et, �
 
 -- row i was reached: what is left to sweep leads to w
 module _ (s t : List ℕ) (i : ℕ) {w : List ℕ} where
-  pub sweep_row : (left start number : ℕ) {u : List ℕ} → take i t ++ lines_set s left (drop i t) ≡ w
+  sweep_row : (left start number : ℕ) {u : List ℕ} → take i t ++ lines_set s left (drop i t) ≡ w
       → 0 < left → i ≤ length t → width ≤ length t - i → start ≡ un (take 4 (drop (i + at_start) t)) → number ≡ 1 + feeds (take start s)
       → u ≡ sets t (i + at_line) (le 4 number)
       → take (i + width) u ++ lines_set s (left - 1) (drop (i + width) u) ≡ w
@@ -107,13 +108,23 @@ module _ (s t : List ℕ) (i : ℕ) {w : List ℕ} where
       )
       e
 
-  pub sweep_short : (left : ℕ) → take i t ++ lines_set s left (drop i t) ≡ w → length t - i < width → t ≡ w
-  sweep_short left e h = rw (lines_short s left (drop i t) (rw length-drop h), take-append-drop) at e
+-- row k was reached: the same, and where the code goes no further
+module _ (s t : List ℕ) (k n : ℕ) {w : List ℕ} (e : take (k * width) t ++ lines_set s (n - k) (drop (k * width) t) ≡ w) where
+  pub sweep_on : (start number : ℕ) {u : List ℕ} → k < min n (length t / width) → start ≡ un (take 4 (drop (k * width + at_start) t))
+      → number ≡ 1 + feeds (take start s) → u ≡ sets t (k * width + at_line) (le 4 number)
+      → take ((k + 1) * width) u ++ lines_set s (n - (k + 1)) (drop ((k + 1) * width) u) ≡ w
+  sweep_on start number h es el eu =
+      let i : (k + 1) * width ≡ k * width + width = omega arith in
+      let m : n - (k + 1) ≡ n - k - 1 = omega arith in
+      rw (i, m) (sweep_row s t (k * width) (n - k) start number e (omega arith) (omega arith) (omega arith) es el eu)
 
-  pub sweep_end : (left : ℕ) → take i t ++ lines_set s left (drop i t) ≡ w → left ≤ 0 → t ≡ w
+  pub sweep_end : min n (length t / width) ≤ k → t ≡ w
   unfolding lines_set
-  sweep_end zero e h = rw take-append-drop at e
-  sweep_end (suc n) e h = absurd (omega arith)
+  sweep_end h =
+      elim (dec_lt k n) [
+        | yes l ↦ rw (lines_short s (n - k) (drop (k * width) t) (rw length-drop (omega arith)), take-append-drop) at e
+        | no l ↦ let z : n - k ≡ 0 = omega arith in rw (z, take-append-drop) at e
+      ]
 
 -- the line from which the code goes on, l, is the one that it kept or, for a start before that, the first
 module _ (s : List ℕ) (start : ℕ) {l m : Line} (e : l ≡ m) (h : LineOf s m) where
@@ -128,7 +139,7 @@ pub sweep_start : (s : List ℕ) → 1 ≡ 1 + feeds (take 0 s)
 unfolding feeds
 sweep_start s = refl
 
-pub ruleset sweeping = (sweep_short, sweep_end, sweep_start)
+pub ruleset sweeping = (sweep_end, sweep_start)
 
 -- ---- the lines that are set are the lines of the rows
 

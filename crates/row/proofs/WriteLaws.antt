@@ -1,4 +1,7 @@
 -- Laws by which the row writer does what is asked: the row of a detail, and what is held of it.
+use Rattle.decimal.specs.declared.Fault.{Fault}
+use Rattle.std.specs.Prelude.{Err, Ok, None, Option, Some}
+use Rattle.decimal.specs.Faults.{Value}
 use Prim.Native.Nat.{ℕ, ◌+◌, ◌%◌}
 use mathlib.Core.Path.{◌≡◌, refl, sym, ◌∙◌}
 use mathlib.Core.Bool.{Bool, true, false}
@@ -8,14 +11,12 @@ use lib.Dec.{ltb}
 use borrow.Author.Tests.{eq-eqb, ne_eqb, ltb-false}
 use Rattle.decimal.specs.Exact.{whole_of, twos_of}
 use Rattle.decimal.specs.declared.Decimal.{Decimal}
-use Rattle.decimal.specs.declared.Value.{Value}
-use Rattle.decimal.specs.declared.Value.TheVariants.{Known, Refused}
 use Rattle.amount.specs.declared.detail.Detail.{Detail}
 use Rattle.row.specs.Field.{le, field_limit}
 use Rattle.row.specs.steps.Pouring.{poured, poured_at, pour_at}
 use Rattle.row.specs.Row.{row_of, row_bytes, room}
 use Rattle.row.specs.Details.{spanned, millionths, value_place}
-use Rattle.row.specs.steps.Writing.{laid, noted}
+use Rattle.row.specs.steps.Writing.{laid, noted, first_refused}
 use Rattle.row.specs.declared.table.Row.{Row}
 use Rattle.row.specs.declared.writer.Out.{Out}
 use Rattle.row.proofs.SameBytes.{mod_four, bytes_same}
@@ -46,30 +47,33 @@ module _ (base : ℕ) (x : Detail) (b : ℕ) (r : Bool) (v : r ≡ spanned x.kin
 -- ---- a value's bytes
 
 module _ (v : Value) where
-  pub bits_known : (d : Decimal) {n b : ℕ} → v ≡ Known d → n ≡ twos_of (whole_of d) → b ≡ n → b ≡ twos_of (millionths v)
+  pub bits_known : (d : Decimal) {n b : ℕ} → v ≡ Ok d → n ≡ twos_of (whole_of d) → b ≡ n → b ≡ twos_of (millionths v)
   unfolding millionths
   bits_known d e f g = rw (e, g, f)
 
-  pub bits_refused : (n : ℕ) → v ≡ Refused n → 0 ≡ twos_of (millionths v)
+  pub bits_refused : (n : Fault) → v ≡ Err n → 0 ≡ twos_of (millionths v)
   unfolding millionths twos_of
   bits_refused n e = rw e
 
 -- ---- what is held
 
-module _ (o : Out) (x : Detail) where
-  pub note_known : (d : Decimal) → x.value ≡ Known d → record { rows = o.rows + 1; bad = o.bad; place = o.place } ≡ noted o x
-  unfolding noted
-  note_known d e = rw e
+module _ (r : Option (Fault × ℕ)) (x : Detail) where
+  pub first_kept : (first : Fault × ℕ) → r ≡ Some first → Some first ≡ first_refused r x
+  unfolding first_refused
+  first_kept first e = rw e
 
-  pub note_first : (n : ℕ) {m p : ℕ} → x.value ≡ Refused n → o.bad ≡ 0 → m ≡ n → p ≡ value_place x
-      → record { rows = o.rows + 1; bad = m + 1; place = p } ≡ noted o x
-  unfolding noted
-  note_first n e f g h = cc (eq-eqb o.bad 0 f)
+  pub first_none : (d : Decimal) → r ≡ None → x.value ≡ Ok d → None ≡ first_refused r x
+  unfolding first_refused
+  first_none d e f = rw (e, f)
 
-  pub note_later : (n : ℕ) → x.value ≡ Refused n → (o.bad ≡ 0 → ⊥)
-      → record { rows = o.rows + 1; bad = o.bad; place = o.place } ≡ noted o x
-  unfolding noted
-  note_later n e f = rw (e, ne_eqb o.bad 0 f)
+  pub first_now : (n : Fault) {p : ℕ} → r ≡ None → x.value ≡ Err n → p ≡ value_place x → Some (n, p) ≡ first_refused r x
+  unfolding first_refused value_place
+  first_now n e f g = rw (e, f, g)
+
+-- what is held after a row more
+pub emit_answer : (o : Out) (x : Detail) (r : Option (Fault × ℕ)) → r ≡ first_refused o.refused x → record { rows = o.rows + 1; refused = r } ≡ noted o x
+unfolding noted
+emit_answer o x r e = rw e
 
 module _ (x : Detail) where
   pub place_key : x.kind ≡ 36 → x.p ≡ value_place x
@@ -96,9 +100,9 @@ pub ruleset writing = (
   row_plain,
   bits_known,
   bits_refused,
-  note_known,
-  note_first,
-  note_later,
+  first_kept,
+  first_none,
+  first_now,
   place_key,
   place_start,
   put_same,

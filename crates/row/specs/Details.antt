@@ -1,8 +1,7 @@
 -- What rows hold beside their span: second spans, and values.
-use Rattle.std.specs.Prelude.{ℕ, Bool, cond, ◌||◌, eqb, ℤ, pos}
+use Rattle.decimal.specs.Faults.{Value}
+use Rattle.std.specs.Prelude.{ℕ, Bool, cond, ◌||◌, eqb, ℤ, pos, Err, Ok}
 use Rattle.decimal.specs.Exact.{whole_of}
-use Rattle.decimal.specs.declared.Value.{Value}
-use Rattle.decimal.specs.declared.Value.TheVariants.{Known, Refused}
 use Rattle.amount.specs.Kinds.{amount_kind, unit_price_kind, total_price_kind, string_meta_kind, number_meta_kind, currency_meta_kind}
 use Rattle.amount.specs.declared.detail.Detail.{Detail}
 
@@ -11,8 +10,8 @@ unfoldable pub spanned : ℕ → Bool
 spanned k = eqb k amount_kind || eqb k unit_price_kind || eqb k total_price_kind || eqb k string_meta_kind || eqb k number_meta_kind || eqb k currency_meta_kind
 
 unfoldable pub millionths : Value → ℤ
-millionths (Known d) = whole_of d
-millionths (Refused n) = pos 0
+millionths (Ok d) = whole_of d
+millionths (Err n) = pos 0
 
 -- where the expression of a row starts
 unfoldable pub value_place : Detail → ℕ

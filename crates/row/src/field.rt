@@ -28,21 +28,11 @@ pub fn get(t: &[u8], at: usize, width: usize) -> usize
     requires { (at + width ≤ length t.now) × (width ≤ 8) }
     ensures { result ≡ un (take width (drop at t.now)) }
 {
-    let mut left = width;
-    let mut x: usize = 0;
-    while 0 < left {
-        left -= 1;
-        let b = t[at + left] as usize;
-        x = x * 256 + b;
+    let mut x = 0;
+    for i in (0..width).rev() {
+        x = x * 256 + usize::from(t[at + i]);
     }
     x
-}
-
-// A byte as a number.
-fn wide(b: u8) -> usize
-    ensures { (result ≡ b) × (result ≤ 255) }
-{
-    b as usize
 }
 
 // The number in the four bytes at `at`: written out, so that the compiler makes one read of them.
@@ -50,7 +40,10 @@ pub fn get_four(t: &[u8], at: usize) -> usize
     requires { at + 4 ≤ length t.now }
     ensures { result ≡ un (take 4 (drop at t.now)) }
 {
-    wide(t[at]) + 256 * (wide(t[at + 1]) + 256 * (wide(t[at + 2]) + 256 * wide(t[at + 3])))
+    usize::from(t[at])
+        + 256
+            * (usize::from(t[at + 1])
+                + 256 * (usize::from(t[at + 2]) + 256 * usize::from(t[at + 3])))
 }
 
 // The number in the eight bytes at `at`.

@@ -7,8 +7,8 @@ ghost use Rattle.row.specs.steps.Sweep.{LineOf, lines_set};
 
 use crate::field;
 use crate::table::{LINE, START, WIDTH};
+use text::run;
 use text::run::Class;
-use text::{bytes, run};
 
 // The line in which the last row started: where it starts, where its line feed or the end of the text stands, and its
 // number.
@@ -50,6 +50,7 @@ fn skipped(s: &[u8], from: usize) -> usize
     ensures { run_to in_line s.now result ≡ run_to in_line s.now from }
 {
     let mut i = from;
+    // No `for`: a turn passes eight bytes, and where they end is the answer.
     while i + 8 <= s.len() {
         if feed_in_eight(s, i) {
             return i;
@@ -74,6 +75,7 @@ fn line_at(s: &[u8], first: Line, start: usize) -> Line
     ensures { LineOf s.now result × (result.number ≡ 1 + feeds (take start s.now)) }
 {
     let mut l = first;
+    // A turn takes a whole line: no step that a range could count.
     while l.stop < start {
         if l.stop < s.len() {
             l = line_from(s, l.stop + 1, l.number + 1);
@@ -88,21 +90,15 @@ fn line_at(s: &[u8], first: Line, start: usize) -> Line
 pub fn set_lines(s: &[u8], table: &mut [u8], n: usize)
     ensures { table.new ≡ lines_set s.now n table.old }
 {
-    let mut left = n;
-    let mut i = 0;
     let mut l = line_from(s, 0, 1);
-    while 0 < left {
-        if table.len() - i < WIDTH {
-            return;
-        }
-        let start = field::get_four(table, i + START);
+    for k in 0..n.min(table.len() / WIDTH) {
+        let row = k * WIDTH;
+        let start = field::get_four(table, row + START);
         if start < l.from {
             l = line_from(s, 0, 1);
         }
         l = line_at(s, l, start);
-        field::put_four(table, i + LINE, l.number);
-        i += WIDTH;
-        left -= 1;
+        field::put_four(table, row + LINE, l.number);
     }
 }
 
@@ -118,36 +114,20 @@ fn few_feeds(s: &[u8]) -> u8
     requires { length s.now ≤ 255 }
     ensures { result ≡ feeds s.now }
 {
-    let mut i = 0;
-    let mut n: u8 = 0;
-    while i < s.len() {
-        n += one_feed(s[i]);
-        i += 1;
+    let mut n = 0;
+    for &b in s {
+        n += one_feed(b);
     }
     n
-}
-
-// Where a part ends whose line feeds are counted in a byte.
-fn part_end(i: usize, size: usize) -> usize
-    requires { i < size }
-    ensures { (i < result) × (result ≤ size) × (result ≤ i + 240) }
-{
-    if size - i < COUNTED {
-        return size;
-    }
-    i + COUNTED
 }
 
 // The line feeds of a text.
 pub fn feeds_of(s: &[u8]) -> usize
     ensures { (result ≡ feeds s.now) × (result ≤ length s.now) }
 {
-    let mut i = 0;
     let mut n = 0;
-    while i < s.len() {
-        let end = part_end(i, s.len());
-        n += bytes::wide(few_feeds(&s[i..end]));
-        i = end;
+    for part in s.chunks(COUNTED) {
+        n += usize::from(few_feeds(part));
     }
     n
 }

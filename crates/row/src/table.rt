@@ -6,7 +6,7 @@ ghost use Rattle.row.specs.steps.Pouring.{place_of, pour, pour_at};
 
 use crate::field;
 
-#[derive(Clone, Copy)]
+#[derive(Clone, Copy, Debug, PartialEq, Eq)]
 pub struct Row {
     pub kind: usize,
     pub start: usize,
@@ -91,7 +91,8 @@ pub fn put_row(t: &mut [u8], n: usize, r: Row)
     }
 }
 
-// The number in the `width` bytes at `at`, or 0 where they are more than eight or not all in the table.
+// The number in the `width` bytes at `at`, or, as the definition has it, 0 where they are more than eight or not all in
+// the table.
 pub fn field_at(t: &[u8], at: usize, width: usize) -> usize
     ensures { result ≡ field_at t.now at width }
 {

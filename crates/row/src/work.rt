@@ -4,28 +4,20 @@ ghost use Rattle.std.proofs.lemmas.List.Edits.{sets};
 ghost use Rattle.decimal.specs.Exact.{largest};
 ghost use Rattle.row.specs.Work.{cleared};
 
-// The first n bytes become zeros.
+// The first n bytes become zeros: `fill` of a part, in one equation.
 pub fn clear(w: &mut [u8], n: usize)
     requires { n ≤ length w.old }
     ensures { w.new ≡ cleared n w.old }
 {
-    let mut i = 0;
-    while i < n {
-        w[i] = 0;
-        i += 1;
-    }
+    w[..n].fill(0);
 }
 
-// All of `from` to `to`, from place `at` on.
+// All of `from` to `to`, from place `at` on: `copy_from_slice` into a part, in one equation.
 pub fn copy(from: &[u8], to: &mut [u8], at: usize)
     requires { at + length from.now ≤ length to.old }
     ensures { to.new ≡ sets to.old at from.now }
 {
-    let mut i = 0;
-    while i < from.len() {
-        to[at + i] = from[i];
-        i += 1;
-    }
+    to[at..at + from.len()].copy_from_slice(from);
 }
 
 // A sum, or the largest number.

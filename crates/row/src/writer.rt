@@ -1,33 +1,23 @@
 // The row writer: rows after those already there, and the first refused value.
-ghost use Rattle.std.specs.Prelude.{◌≡◌, [], ◌∷◌, map, ◌+◌, ◌≤◌};
+ghost use Rattle.std.specs.Prelude.{◌≡◌, [], ◌∷◌, map, ◌≤◌};
 ghost use Rattle.decimal.specs.Exact.{twos_of};
 ghost use Rattle.text.specs.Permitted.{size_limit};
 ghost use Rattle.row.specs.Row.{row_bytes};
 ghost use Rattle.row.specs.steps.Pouring.{pour_at};
 ghost use Rattle.row.specs.Details.{spanned, millionths, value_place};
-ghost use Rattle.row.specs.steps.Writing.{laid, noted, outs, some_row, Room, Writable};
+ghost use Rattle.row.specs.steps.Writing.{laid, noted, outs, some_row, first_refused, Writable};
 
 use crate::table;
 use crate::table::{FIELD, Row};
 use amount::detail::Detail;
 use amount::kind;
-use decimal::Value;
-use text::bytes;
+use decimal::{Fault, Value};
 
-// So many rows are there; one plus the number of the first refused value, 0 for none, and its place.
-#[derive(Clone, Copy)]
+// So many rows are there; and the first refused value, with its place.
+#[derive(Clone, Copy, Debug, PartialEq, Eq)]
 pub struct Out {
     pub rows: usize,
-    pub bad: usize,
-    pub place: usize,
-}
-
-// What a reader that writes answers.
-#[derive(Clone, Copy)]
-pub enum Ran {
-    To(usize, Out),
-    Miss,
-    Hard(usize, usize),
+    pub refused: Option<(Fault, usize)>,
 }
 
 // Kinds whose p and q are a span.
@@ -42,19 +32,13 @@ pub fn is_spanned(kind: usize) -> bool
         | (kind == kind::CURRENCY_META)
 }
 
-fn wide(n: u64) -> usize
-    ensures { result ≡ n }
-{
-    n as usize
-}
-
 // A value's eight bytes.
 pub fn value_bits(v: Value) -> usize
     ensures { result ≡ twos_of (millionths v) }
 {
     match v {
-        Value::Known(d) => wide(decimal::row_bits(d)),
-        Value::Refused(_) => 0,
+        Ok(d) => decimal::row_bits(d) as usize,
+        Err(_) => 0,
     }
 }
 
@@ -101,28 +85,16 @@ fn value_place(x: Detail) -> usize
     }
 }
 
-// One row more; the first refused value is kept.
-fn note(out: Out, x: Detail) -> Out
-    requires { Room 1 out }
-    ensures { result ≡ noted out x }
+// The first refused value is kept.
+fn first_refused(first: Option<(Fault, usize)>, x: Detail) -> Option<(Fault, usize)>
+    ensures { result ≡ first_refused first x }
 {
-    let rows = out.rows + 1;
-    let bad = out.bad;
-    let place = out.place;
-    let v = x.value;
-    match v {
-        Value::Known(_) => Out { rows, bad, place },
-        Value::Refused(n) => {
-            if bad == 0 {
-                Out {
-                    rows,
-                    bad: bytes::wide(n) + 1,
-                    place: value_place(x),
-                }
-            } else {
-                Out { rows, bad, place }
-            }
-        }
+    match first {
+        Some(first) => Some(first),
+        None => match x.value {
+            Ok(_) => None,
+            Err(fault) => Some((fault, value_place(x))),
+        },
     }
 }
 
@@ -137,18 +109,21 @@ pub fn emit(table: &mut [u8], base: usize, out: Out, x: Detail) -> Out
         let r = row_of(x, base);
         table::put_row(table, k, r);
     }
-    note(out, x)
+    Out {
+        rows: k + 1,
+        refused: first_refused(out.refused, x),
+    }
 }
 
-// A row, and another, if it is one.
-pub fn emit_with(table: &mut [u8], base: usize, out: Out, x: Detail, n: Detail) -> Out
+// A row, and another, if there is one.
+pub fn emit_with(table: &mut [u8], base: usize, out: Out, x: Detail, more: Option<Detail>) -> Out
     requires { Writable 2 base out }
-    ensures answer { result ≡ outs out (x ∷ some_row n) }
-    ensures rows { table.new ≡ pour_at out.rows (map (laid base) (x ∷ some_row n)) table.old }
+    ensures answer { result ≡ outs out (x ∷ some_row more) }
+    ensures rows { table.new ≡ pour_at out.rows (map (laid base) (x ∷ some_row more)) table.old }
 {
     let o = emit(table, base, out, x);
-    if n.kind == 0 {
-        return o;
+    match more {
+        Some(n) => emit(table, base, o, n),
+        None => o,
     }
-    emit(table, base, o, n)
 }

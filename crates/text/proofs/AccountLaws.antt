@@ -1,4 +1,6 @@
 -- The answers at accounts, each from what the code knows where it gives it.
+use Rattle.text.specs.declared.stop.Stop.{Stop}
+use Rattle.std.specs.Prelude.{Err, Ok}
 use Prim.Native.Nat.{ℕ, zero, suc, ◌+◌, ◌-◌, ◌≤◌, ◌<◌}
 use native.Mathlib.Decide.{dec_lt}
 use native.Mathlib.Omega.{arith}
@@ -10,13 +12,12 @@ use lib.Dec.{eqb, leb}
 use lib.ListN.{length, drop, get_or, drop_of_length-le}
 use Rattle.text.specs.Bytes.{is_capital, is_small, is_digit, in_account, starts_part}
 use Rattle.text.specs.Run.{run_to}
-use Rattle.text.specs.Refusals.{second_part_number}
+use Rattle.text.specs.Refusals.{missing_part}
 use Rattle.text.specs.Answer as answer
 use Rattle.text.specs.Answer.{Ans, must, ◌and◌, more, maybe, many}
 use Rattle.text.specs.Leaves.{byte}
 use Rattle.text.specs.Accounts.{account_part, next_part, account}
 use Rattle.text.specs.steps.Accounts.{part_follows, parts_from, account_at, account_answer}
-use Rattle.text.specs.declared.account.AccountRead.TheVariants.{To, Miss, Hard}
 use Rattle.text.specs.steps.Windows.{goes_on, first_stop}
 use Rattle.text.proofs.TestLaws.{absurd_bool, or_left, and_right}
 use Rattle.text.proofs.Steps.{drop_step, head_drop, get_d_past, run_on, run_stops, run_ends, run_from_lem, run_out, run_same, such_within}
@@ -190,12 +191,14 @@ module _ (s : List ℕ) (i j : ℕ) (v : j ≡ parts_from (drop i s) i) where
       pub part_next : (get_or s i 0 ≡ 58 → ⊥) → a ≡ run_to in_account s (i + 1)
       part_next c = w ∙ run_on in_account s i (part_within l) (part_on (get_or s i 0) (get_or s (i + 1) 0) (goes l) c)
 
-    pub part_last : j ≤ i → i ≡ a
+    pub part_last : j ≤ i → j ≡ a
     part_last l =
-        elim (dec_lt i (length s)) [
+        let e : j ≡ i = omega (arith, v, (parts_from_lem (drop i s) i).0) in
+        rw e
+        (elim (dec_lt i (length s)) [
           | yes h ↦ sym (w ∙ run_stops in_account s i h (part_off (get_or s i 0) (get_or s (i + 1) 0) (ends l)))
           | no h ↦ sym (w ∙ run_ends in_account s i (omega arith))
-        ]
+        ])
 
   pub account_next : i < j → j ≡ parts_from (drop (i + 1) s) (i + 1)
   account_next l = v ∙ parts_on s i (part_within l) (goes l)
@@ -216,12 +219,12 @@ follow_on : (s : List ℕ) (e : ℕ) → in_account (get_or s e 0) ≡ false →
 unfolding goes_on part_follows
 follow_on s e o = rw o
 
-pub account_past : (s : List ℕ) (at : ℕ) → length s ≤ at → Miss ≡ account_at s at
+pub account_past : (s : List ℕ) (at : ℕ) → length s ≤ at → (Err Stop.Miss) ≡ account_at s at
 unfolding account_at starts_part is_capital is_digit
 account_past s at h = rw (get_d_past s at h)
 
 module _ (s : List ℕ) (at : ℕ) (r : Bool) (p : r ≡ starts_part (get_or s at 0)) where
-  pub account_no : r ≡ false → Miss ≡ account_at s at
+  pub account_no : r ≡ false → (Err Stop.Miss) ≡ account_at s at
   unfolding account_at
   account_no q = cc
 
@@ -231,17 +234,17 @@ module _ (s : List ℕ) (at : ℕ) (r : Bool) (p : r ≡ starts_part (get_or s a
     rest : j ≡ parts_from (drop e s) e
     rest = w ∙ part_left s (at + 1) e f
 
-    follows : (t : Bool) → part_follows s e ≡ t → account_at s at ≡ cond t (To j) Hard
+    follows : (t : Bool) → part_follows s e ≡ t → account_at s at ≡ cond t (Ok j) (Err (Stop.Hard missing_part at))
     unfolding account_at
     follows t u = let k = rest in cc
 
     goes_follows : goes_on (get_or s e 0) (get_or s (e + 1) 0) ≡ part_follows s e
     goes_follows = follow_on s e (past_part s (at + 1) e f)
 
-    pub account_read : e < j → To j ≡ account_at s at
+    pub account_read : e < j → Ok j ≡ account_at s at
     account_read l = sym (follows true (sym goes_follows ∙ goes s e j rest l))
 
-    pub account_hard : j ≤ e → Hard ≡ account_at s at
+    pub account_hard : j ≤ e → (Err (Stop.Hard missing_part at)) ≡ account_at s at
     account_hard l = sym (follows false (sym goes_follows ∙ ends s e j rest l))
 
 pub ruleset account_laws = (account_read, account_hard, account_no, account_past)
@@ -288,18 +291,18 @@ module _ {A : Type 0} (s : List ℕ) where
       go true e u = rw (u, next_left s i o e)
       go false e u = rw (none_left s i o e)
 
-  pub account_answers : (at : ℕ) → account s at ≡ account_answer {A = A} second_part_number at (account_at s at)
+  pub account_answers : (at : ℕ) → account s at ≡ account_answer {A = A} (account_at s at)
   unfolding account account_part account_at account_answer must ◌and◌ more
   account_answers at = go (starts_part (get_or s at 0)) (run_to in_account s (at + 1)) refl
     where
       -- after a first part that ends at e
       second : (e : ℕ) → in_account (get_or s e 0) ≡ false → (t : Bool) → part_follows s e ≡ t
-          → more [] (must second_part_number at (next_of t e) and λ f. many (next_part s) (suc (length s)) f) ≡ account_answer second_part_number at (cond t (To (parts_from (drop e s) e)) Hard)
+          → more [] (must missing_part at (next_of t e) and λ f. many (next_part s) (suc (length s)) f) ≡ account_answer (cond t (Ok (parts_from (drop e s) e)) (Err (Stop.Hard missing_part at)))
       second e o true u = rw (parts_many (suc (length s)) (next_end s e) (omega arith) (past_part s (e + 1 + 1) _ refl), next_left s e o u)
       second e o false u = refl
 
       go : (t : Bool) (e : ℕ) → e ≡ run_to in_account s (at + 1)
-          → (cond t (answer.To e []) answer.Miss and λ e. must second_part_number at (next_part s e) and λ f. many (next_part s) (suc (length s)) f)
-          ≡ account_answer {A = A} second_part_number at (cond t (cond (part_follows s e) (To (parts_from (drop e s) e)) Hard) Miss)
+          → (cond t (answer.To e []) answer.Miss and λ e. must missing_part at (next_part s e) and λ f. many (next_part s) (suc (length s)) f)
+          ≡ account_answer {A = A} (cond t (cond (part_follows s e) (Ok (parts_from (drop e s) e)) (Err (Stop.Hard missing_part at))) (Err Stop.Miss))
       go true e f = rw (next_is e) (second e (past_part s (at + 1) e f) (part_follows s e) refl)
       go false e f = refl

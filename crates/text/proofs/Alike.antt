@@ -2,6 +2,7 @@
 --     K     which places are alike
 --     Q     whether what is read must be equal, and the place of a refusal: where Q holds, they are
 --     Same  the same answer, which ends before n
+use Rattle.text.specs.declared.stop.Cause.{Cause}
 use Prim.Native.Nat.{ℕ, zero, suc, ◌+◌, ◌≤◌, ◌<◌}
 use native.Mathlib.Omega.{arith}
 use mathlib.Core.Path.{◌≡◌, refl}
@@ -13,7 +14,7 @@ use Rattle.text.proofs.Joins.{Reach}
 pub data Alike {A : Type 0} (Q : Type 0) (K : ℕ → ℕ → Type 0) : Ans A → Ans A → Type 0 where
   both_to : (i j : ℕ) (x y : A) → K i j → (Q → x ≡ y) → Alike Q K (To i x) (To j y)
   both_miss : Alike Q K Miss Miss
-  both_hard : (k p q : ℕ) → (Q → p ≡ q) → Alike Q K (Hard k p) (Hard k q)
+  both_hard : (k : Cause) (p q : ℕ) → (Q → p ≡ q) → Alike Q K (Hard k p) (Hard k q)
 
 -- ---- joins
 
@@ -56,7 +57,7 @@ module _ {A : Type 0} {Q : Type 0} {K : ℕ → ℕ → Type 0} where
   else_alike both_miss T = T
   else_alike (both_hard k p q e) T = both_hard k p q e
 
-  pub must_alike : {a b : Ans A} (n i j : ℕ) → (Q → i ≡ j) → Alike Q K a b → Alike Q K (must n i a) (must n j b)
+  pub must_alike : {a b : Ans A} (n : Cause) (i j : ℕ) → (Q → i ≡ j) → Alike Q K a b → Alike Q K (must n i a) (must n j b)
   unfolding must
   must_alike n i j f (both_to l m x y k e) = both_to l m x y k e
   must_alike n i j f both_miss = both_hard n i j f

@@ -1,4 +1,5 @@
 -- The answers at currencies, each from what the code knows where it gives it.
+use Rattle.std.specs.Prelude.{None, Some}
 use Prim.Native.Nat.{ℕ, ◌+◌, ◌-◌, ◌^◌, ◌≤◌, ◌<◌}
 use native.Mathlib.Decide.{dec_lt}
 use native.Mathlib.Omega.{arith}
@@ -11,7 +12,6 @@ use lib.ListN.{length, get_or}
 use Rattle.text.specs.Bytes.{is_capital, is_digit, in_currency, starts_part}
 use Rattle.text.specs.Run.{run_to}
 use Rattle.text.specs.Currencies.{currency_at}
-use Rattle.text.specs.declared.Read.TheVariants.{To, Miss}
 use Rattle.text.proofs.Steps.{get_d_past, such_within, run_on, run_stops, run_ends, run_ind, run_behind}
 
 -- a capital is a currency's byte, and may end one
@@ -46,12 +46,12 @@ run_last p s i e b f =
     b
 
 module _ (s : List ℕ) (at : ℕ) where
-  pub currency_past : length s ≤ at → Miss ≡ currency_at s at
+  pub currency_past : length s ≤ at → None ≡ currency_at s at
   unfolding currency_at is_capital
   currency_past h = rw (get_d_past s at h)
 
   module _ (r : Bool) (p : r ≡ is_capital (get_or s at 0)) where
-    pub currency_no : r ≡ false → Miss ≡ currency_at s at
+    pub currency_no : r ≡ false → None ≡ currency_at s at
     unfolding currency_at
     currency_no q = cc
 
@@ -66,7 +66,7 @@ module _ (s : List ℕ) (at : ℕ) where
           capital_ends (get_or s (c - 1) 0) (run_last is_capital s (at + 1) c (rw n (sym p ∙ q)) k)
 
       -- if it is none, the run ends with a capital
-      pub currency_short : x ≡ false → To c ≡ currency_at s at
+      pub currency_short : x ≡ false → Some c ≡ currency_at s at
       unfolding currency_at
       currency_short n =
           let f : run_to in_currency s (at + 1) ≡ c = behind ∙ run_none in_currency s c (rw (← g, ← v) n) in
@@ -86,11 +86,11 @@ module _ (s : List ℕ) (at : ℕ) where
           ends : e ≡ run_to in_currency s (at + 1)
           ends = w ∙ sym (behind ∙ run_on in_currency s c other_within (rw (← g, ← v) o))
 
-          pub currency_read : t ≡ true → To e ≡ currency_at s at
+          pub currency_read : t ≡ true → Some e ≡ currency_at s at
           unfolding currency_at
           currency_read i = let f = ends in cc
 
-          pub currency_ends : t ≡ false → Miss ≡ currency_at s at
+          pub currency_ends : t ≡ false → None ≡ currency_at s at
           unfolding currency_at
           currency_ends i = let f = ends in cc
 

@@ -1,4 +1,5 @@
 -- The answers at dates, each from what the code knows where it gives it.
+use Rattle.std.specs.Prelude.{None, Option, Some}
 use Prim.Native.Nat.{ℕ, ◌+◌, ◌-◌, ◌*◌, ◌≤◌, ◌<◌}
 use native.Mathlib.Omega.{arith}
 use mathlib.Core.Path.{◌≡◌, refl, sym}
@@ -8,8 +9,6 @@ use lib.Dec.{eqb, leb}
 use lib.ListN.{length, drop, get_or, length-drop}
 use Rattle.text.specs.Bytes.{is_digit}
 use Rattle.text.specs.Dates.{as_shape, like_shape, date_shape, two, date_in, date_at}
-use Rattle.text.specs.declared.date.Dated.{Dated}
-use Rattle.text.specs.declared.date.Dated.TheVariants.{On, Miss}
 use Rattle.text.proofs.Steps.{drop_step}
 
 -- two digits at a place, x and y what the code's tests gave
@@ -65,30 +64,30 @@ like_length (c ∷ w) (b ∷ s) h = rw (like_length w s (omega arith)) (and-fals
 module _ (s : List ℕ) (at : ℕ) where
   -- the month m and the day d, at the shape of a date
   module _ (m d : ℕ) (p : m ≡ two s (at + 5)) (q : d ≡ two s (at + 8)) where
-    pub in_read : (leb 1 m && leb m 12 && leb 1 d && leb d 31) ≡ true → (y z : ℕ) → y ≡ two s at → z ≡ two s (at + 2) → On (at + 10) (y * 1000000 + z * 10000 + m * 100 + d) ≡ date_in s at
+    pub in_read : (leb 1 m && leb m 12 && leb 1 d && leb d 31) ≡ true → (y z : ℕ) → y ≡ two s at → z ≡ two s (at + 2) → Some ((at + 10), (y * 1000000 + z * 10000 + m * 100 + d)) ≡ date_in s at
     unfolding date_in
     in_read t y z e f = rw (e, f, ← p, ← q, t)
 
-    pub in_no : (leb 1 m && leb m 12 && leb 1 d && leb d 31) ≡ false → Miss ≡ date_in s at
+    pub in_no : (leb 1 m && leb m 12 && leb 1 d && leb d 31) ≡ false → None ≡ date_in s at
     unfolding date_in
     in_no t = rw (← p, ← q, t)
 
   -- a date, or a text too short for one
-  past : length s < at + 10 → Miss ≡ date_at s at
+  past : length s < at + 10 → None ≡ date_at s at
   unfolding date_at
   past h = rw (like_length date_shape (drop at s) (omega (arith, length-drop at s)))
 
-  pub date_short : length s < 10 → Miss ≡ date_at s at
+  pub date_short : length s < 10 → None ≡ date_at s at
   date_short h = past (omega arith)
 
-  pub date_late : length s - 10 < at → Miss ≡ date_at s at
+  pub date_late : length s - 10 < at → None ≡ date_at s at
   date_late h = past (omega arith)
 
-  pub date_read : (r : Bool) (o : Dated) → r ≡ like_shape date_shape (drop at s) → r ≡ true → o ≡ date_in s at → o ≡ date_at s at
+  pub date_read : (r : Bool) (o : Option (ℕ × ℕ)) → r ≡ like_shape date_shape (drop at s) → r ≡ true → o ≡ date_in s at → o ≡ date_at s at
   unfolding date_at
   date_read r o p q u = cc
 
-  pub date_no : (r : Bool) → r ≡ like_shape date_shape (drop at s) → r ≡ false → Miss ≡ date_at s at
+  pub date_no : (r : Bool) → r ≡ like_shape date_shape (drop at s) → r ≡ false → None ≡ date_at s at
   unfolding date_at
   date_no r p q = cc
 

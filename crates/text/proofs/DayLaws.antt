@@ -1,4 +1,5 @@
 -- What the number of a date is that was read, and where its text ends.
+use Rattle.std.specs.Prelude.{None, Some}
 use Prim.Native.Nat.{ℕ, zero, suc, ◌+◌, ◌-◌, ◌*◌, ◌/◌, ◌%◌, ◌≤◌, ◌<◌}
 use native.Mathlib.Omega.{arith}
 use mathlib.Core.Path.{◌≡◌, refl}
@@ -12,7 +13,6 @@ use Rattle.text.specs.Bytes.{is_digit}
 use Rattle.text.specs.Dates.{as_shape, like_shape, date_shape, two, date_in, date_at}
 use Rattle.text.specs.Answer.{To}
 use Rattle.text.specs.Leaves.{date, dated}
-use Rattle.text.specs.declared.date.Dated.{Dated}
 use Rattle.text.proofs.TestLaws.{absurd_bool, and_left, and_right}
 use Rattle.text.proofs.Inversions.{not_miss}
 
@@ -58,7 +58,7 @@ module _ (s : List ℕ) (at : ℕ) where
       q = two s at * 1000000 + two s (at + 2) * 10000 + m * 100 + d
 
       in_range : like_shape date_shape (drop at s) ≡ true → (a b c f : Bool) → leb 1 m ≡ a → leb m 12 ≡ b → leb 1 d ≡ c → leb d 31 ≡ f
-          → dated (cond (a && b && c && f) (Dated.On (at + 10) q) Dated.Miss) ≡ To e p → Day p × (e ≡ at + 10)
+          → dated (cond (a && b && c && f) (Some ((at + 10), q)) None) ≡ To e p → Day p × (e ≡ at + 10)
       in_range l true true true true x y z w h =
           let f : p ≡ q = cc in
           let g : e ≡ at + 10 = cc in
@@ -77,7 +77,7 @@ module _ (s : List ℕ) (at : ℕ) where
       in_range l true true true false x y z w h = not_miss h
 
       go : (b : Bool) → like_shape date_shape (drop at s) ≡ b
-          → dated (cond b (cond (leb 1 m && leb m 12 && leb 1 d && leb d 31) (Dated.On (at + 10) q) Dated.Miss) Dated.Miss) ≡ To e p → Day p × (e ≡ at + 10)
+          → dated (cond b (cond (leb 1 m && leb m 12 && leb 1 d && leb d 31) (Some ((at + 10), q)) None) None) ≡ To e p → Day p × (e ≡ at + 10)
       go true l h = in_range l (leb 1 m) (leb m 12) (leb 1 d) (leb d 31) refl refl refl refl h
       go false l h = not_miss h
 
@@ -91,6 +91,6 @@ pub date_head : (s : List ℕ) (e p : ℕ) → date s 0 ≡ To e p → is_digit 
 unfolding date date_at dated
 date_head s e p h = go (like_shape date_shape s) refl h
   where
-    go : (b : Bool) → like_shape date_shape s ≡ b → dated (cond b (date_in s 0) Dated.Miss) ≡ To e p → is_digit (get_or s 0 0) ≡ true
+    go : (b : Bool) → like_shape date_shape s ≡ b → dated (cond b (date_in s 0) None) ≡ To e p → is_digit (get_or s 0 0) ≡ true
     go true l h = shape_digit s l
     go false l h = not_miss h

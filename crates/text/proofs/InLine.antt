@@ -1,5 +1,6 @@
 -- Words and classes of bytes without a line feed, which stay inside a line. And the boundary: the first byte after a
 -- text that ends in one.
+use Rattle.std.specs.Prelude.{None}
 use Prim.Native.Nat.{ℕ, ◌<◌}
 use native.Mathlib.Omega.{arith}
 use mathlib.Core.Path.{◌≡◌, refl}
@@ -13,7 +14,6 @@ use Rattle.text.specs.Bytes.{is_blank, is_digit, is_small, is_capital, in_commen
 use Rattle.text.specs.Run.{blanks}
 use Rattle.text.specs.Boundaries.{is_start}
 use Rattle.text.specs.Lines.{gap_at, comment_end, eol_at, line_end_at}
-use Rattle.text.specs.declared.Read.TheVariants.{Miss}
 use Rattle.text.proofs.TestLaws.{differ}
 use Rattle.text.proofs.Steps.{run_stops, run_ends}
 
@@ -67,16 +67,16 @@ module _ (xs t : List ℕ) (b : ℕ) (B : Boundary b) where
   no_blanks : blanks (xs ++ b ∷ t) (length xs) ≡ length xs
   no_blanks = run_stops is_blank (xs ++ b ∷ t) (length xs) more (rw (get_or-append_seam xs b t 0) B.blank)
 
-  pub line_end_misses : line_end_at (xs ++ b ∷ t) (length xs) ≡ Miss
+  pub line_end_misses : line_end_at (xs ++ b ∷ t) (length xs) ≡ None
   unfolding line_end_at comment_end eol_at
   line_end_misses =
       rw (no_blanks, get_or-append_seam xs b t 0, B.comment, get_or-append_seam xs b t 0, B.lf, B.cr, lt-leb (length (xs ++ b ∷ t)) (length xs) more)
 
-  pub gap_misses : gap_at (xs ++ b ∷ t) (length xs) ≡ Miss
+  pub gap_misses : gap_at (xs ++ b ∷ t) (length xs) ≡ None
   unfolding gap_at
   gap_misses = rw (no_blanks, le-ltb (length xs) (length xs) (omega arith))
 
 -- nor at the end of a text
-pub gap_ends : (xs : List ℕ) → gap_at xs (length xs) ≡ Miss
+pub gap_ends : (xs : List ℕ) → gap_at xs (length xs) ≡ None
 unfolding gap_at
 gap_ends xs = rw (run_ends is_blank xs (length xs) (omega arith), le-ltb (length xs) (length xs) (omega arith))

@@ -1,4 +1,7 @@
 -- What was read, from what a reader that is put together has read: each way of putting together, undone.
+use Rattle.text.specs.declared.stop.Cause.{Cause}
+use Rattle.text.specs.declared.stop.Stop.{Stop}
+use Rattle.std.specs.Prelude.{None, Option, Some, Err, Ok, Result}
 use Prim.Native.Nat.{ℕ}
 use native.Mathlib.Omega.{arith}
 use mathlib.Core.Path.{◌≡◌, refl, ◌∙◌, ap}
@@ -7,8 +10,6 @@ use mathlib.Core.Logic.{◌⊎◌, inl, inr}
 use Rattle.text.specs.Answer.{Ans, To, Miss, Hard, ◌then◌, ◌and◌, ◌else◌, more, must, maybe}
 use Rattle.text.specs.Leaves.{token}
 use Rattle.text.specs.steps.Accounts.{account_answer}
-use Rattle.text.specs.declared.Read.{Read}
-use Rattle.text.specs.declared.account.AccountRead.{AccountRead}
 
 pub to_inv : {A : Type 0} (i j : ℕ) (x y : A) → To i x ≡ To j y → (i ≡ j) × (y ≡ x)
 to_inv i j x y e = (cc, cc)
@@ -16,7 +17,7 @@ to_inv i j x y e = (cc, cc)
 pub not_miss : {A B : Type 0} {j : ℕ} {x : A} → ◌≡◌ {A = Ans A} Miss (To j x) → B
 not_miss e = absurd (let z : ◌≡◌ {A = ℕ} 0 1 = cc in omega arith)
 
-pub not_hard : {A B : Type 0} {k p j : ℕ} {x : A} → ◌≡◌ {A = Ans A} (Hard k p) (To j x) → B
+pub not_hard : {A B : Type 0} {k : Cause} {p j : ℕ} {x : A} → ◌≡◌ {A = Ans A} (Hard k p) (To j x) → B
 not_hard e = absurd (let z : ◌≡◌ {A = ℕ} 0 1 = cc in omega arith)
 
 module _ {A : Type 0} where
@@ -33,7 +34,7 @@ module _ {A : Type 0} where
   and_inv Miss g j x e = not_miss e
   and_inv (Hard k p) g j x e = not_hard e
 
-  pub must_inv : (n i : ℕ) (a : Ans A) (j : ℕ) (x : A) → must n i a ≡ To j x → a ≡ To j x
+  pub must_inv : (n : Cause) (i : ℕ) (a : Ans A) (j : ℕ) (x : A) → must n i a ≡ To j x → a ≡ To j x
   unfolding must
   must_inv n i (To k y) j x e = e
   must_inv n i Miss j x e = not_hard e
@@ -51,16 +52,16 @@ module _ {A : Type 0} where
   maybe_inv i Miss j x e = inr (refl, cc, cc)
   maybe_inv i (Hard k p) j x e = not_hard e
 
-  pub token_inv : (r : Read) (j : ℕ) (x : List A) → token r ≡ To j x → (r ≡ Read.To j) × (x ≡ [])
+  pub token_inv : (r : Option ℕ) (j : ℕ) (x : List A) → token r ≡ To j x → (r ≡ Some j) × (x ≡ [])
   unfolding token
-  token_inv (Read.To k) j x e = (cc, cc)
-  token_inv Read.Miss j x e = not_miss e
+  token_inv (Some k) j x e = (cc, cc)
+  token_inv None j x e = not_miss e
 
-  pub account_inv : (n at : ℕ) (r : AccountRead) (j : ℕ) (x : List A) → account_answer n at r ≡ To j x → (r ≡ AccountRead.To j) × (x ≡ [])
+  pub account_inv : (r : Result ℕ Stop) (j : ℕ) (x : List A) → account_answer r ≡ To j x → (r ≡ Ok j) × (x ≡ [])
   unfolding account_answer
-  account_inv n at (AccountRead.To k) j x e = (cc, cc)
-  account_inv n at AccountRead.Miss j x e = not_miss e
-  account_inv n at AccountRead.Hard j x e = not_hard e
+  account_inv (Ok k) j x e = (cc, cc)
+  account_inv (Err Stop.Miss) j x e = not_miss e
+  account_inv (Err (Stop.Hard k p)) j x e = not_hard e
 
 pub then_inv : {A B : Type 0} (a : Ans A) (g : ℕ → A → Ans B) (j : ℕ) (x : B) → (a then g) ≡ To j x → (i : ℕ) × (y : A) × (a ≡ To i y) × (g i y ≡ To j x)
 unfolding ◌then◌

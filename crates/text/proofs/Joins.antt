@@ -1,5 +1,6 @@
 -- Laws of the joins of readers, over their answers alone.
 --     Reach   what is read ends at i or after it, and within n; a refusal stands within n, with one of these numbers
+use Rattle.text.specs.declared.stop.Cause.{Cause}
 use Prim.Native.Nat.{ℕ, zero, suc, ◌≤◌}
 use native.Mathlib.Omega.{arith}
 use mathlib.Core.Path.{◌≡◌, refl, ap}
@@ -7,32 +8,35 @@ use mathlib.Core.Bool.{Bool, true, false, cond}
 use mathlib.Core.Logic.{inl, inr}
 use mathlib.Core.List.{List, [], ◌∷◌, ◌++◌, append_assoc}
 use Rattle.text.specs.Every.{OneOf}
-use Rattle.text.specs.Refusals.{deep_number, required_number, word_gap_number, second_part_number}
+use Rattle.text.specs.Refusals.{too_deep, missing, missing_gap, missing_part, cause_number}
 use Rattle.text.specs.Answer.{Ans, To, Miss, Hard, ◌then◌, must, ◌else◌, more, ◌and◌, maybe, many}
 
 -- ---- the numbers by which a reading refuses
 
 abbrev pub reading_numbers : List ℕ
-reading_numbers = deep_number ∷ required_number ∷ word_gap_number ∷ second_part_number ∷ []
+reading_numbers = cause_number too_deep ∷ cause_number missing ∷ cause_number missing_gap ∷ cause_number missing_part ∷ []
 
-pub deep : OneOf reading_numbers deep_number
-deep = inl refl
+pub record Listed (k : Cause) : Type 0 where
+  pub has : OneOf reading_numbers (cause_number k)
 
-pub required : OneOf reading_numbers required_number
-required = inr (inl refl)
+pub deep : Listed too_deep
+deep = record { has = inl refl }
 
-pub word_gap : OneOf reading_numbers word_gap_number
-word_gap = inr (inr (inl refl))
+pub required : Listed missing
+required = record { has = inr (inl refl) }
 
-pub second_part : OneOf reading_numbers second_part_number
-second_part = inr (inr (inr (inl refl)))
+pub word_gap : Listed missing_gap
+word_gap = record { has = inr (inr (inl refl)) }
+
+pub second_part : Listed missing_part
+second_part = record { has = inr (inr (inr (inl refl))) }
 
 -- ---- Reach
 
 abbrev pub Ends : {A : Type 0} → ℕ → ℕ → Ans A → Type 0
 Ends n i (To j x) = (i ≤ j) × (j ≤ n)
 Ends n i Miss = Unit {0}
-Ends n i (Hard k p) = (p ≤ n) × OneOf reading_numbers k
+Ends n i (Hard k p) = (p ≤ n) × Listed k
 
 pub record Reach {A : Type 0} (n i : ℕ) (a : Ans A) : Type 0 where
   pub ends : Ends n i a
@@ -43,7 +47,7 @@ to_reach n i j x h l = record { ends = (h, l) }
 pub miss_reach : {A : Type 0} (n i : ℕ) → Reach {A = A} n i Miss
 miss_reach n i = record { ends = tt }
 
-pub hard_reach : {A : Type 0} (n i : ℕ) {k : ℕ} (w : OneOf reading_numbers k) (p : ℕ) → p ≤ n → Reach {A = A} n i (Hard k p)
+pub hard_reach : {A : Type 0} (n i : ℕ) {k : Cause} (w : Listed k) (p : ℕ) → p ≤ n → Reach {A = A} n i (Hard k p)
 hard_reach n i w p h = record { ends = (h, w) }
 
 -- a choice by a test, where f makes an answer of what is chosen
@@ -65,7 +69,7 @@ module _ {A : Type 0} (n : ℕ) where
   reach_from i j Miss h r = miss_reach n j
   reach_from i j (Hard k p) h r = hard_reach n j r.ends.1 p r.ends.0
 
-  pub must_reach : (i : ℕ) {m : ℕ} (w : OneOf reading_numbers m) (at : ℕ) (a : Ans A) → at ≤ n → Reach n i a → Reach n i (must m at a)
+  pub must_reach : (i : ℕ) {m : Cause} (w : Listed m) (at : ℕ) (a : Ans A) → at ≤ n → Reach n i a → Reach n i (must m at a)
   unfolding must
   must_reach i w at (To k x) h r = r
   must_reach i w at Miss h r = hard_reach n i w at h

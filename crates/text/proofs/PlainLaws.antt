@@ -6,11 +6,12 @@ use mathlib.Core.Bool.{Bool, true, false, cond, ◌&&◌, ◌||◌, and-true, an
 use mathlib.Core.List.{List, [], ◌∷◌}
 use borrow.Author.Tests.{leb-true, eqb-true}
 use lib.Dec.{leb, eqb}
-use lib.ListN.{length, take, drop, get_or, length-drop}
-use lib.Seq.{drop-cons, drop-drop}
+use lib.ListN.{length, take, drop, get_or, length-drop, drop_of_length-le}
+use lib.Seq.{drop-drop}
 use Rattle.text.specs.Permitted.{permitted, clean}
 use Rattle.text.specs.steps.Stretch.{is_plain, all_plain}
 use Rattle.text.proofs.TestLaws.{absurd_bool, and_left, and_right}
+use Rattle.text.proofs.Steps.{drop_step}
 use Rattle.text.proofs.PermittedLaws.{shown, feed, tab}
 
 plain_stands : (b n : ℕ) → is_plain b ≡ true → permitted b n ≡ true
@@ -26,27 +27,18 @@ plain_stands b n e = go (leb 32 b) (leb b 126) (eqb b 10) (eqb b 9) refl refl re
 
 -- ---- the code's loop over a chunk of `size` bytes
 
-module _ (s : List ℕ) (at size : ℕ) where
-  pub chunk_start : (true && all_plain (take (size - 0) (drop (at + 0) s))) ≡ all_plain (take size (drop at s))
-  chunk_start =
-      let a : size - 0 ≡ size = omega arith in
-      let b : at + 0 ≡ at = omega arith in
-      rw (a, b)
+pub chunk_start : (s : List ℕ) (at size : ℕ) → (true && all_plain (drop 0 (take (at + size - at) (drop at s)))) ≡ all_plain (take size (drop at s))
+chunk_start s at size = let e : at + size - at ≡ size = omega arith in rw e
 
-  -- what is left from place i of it on makes up the answer w; r is what the code's test gave of the byte there
-  module _ (i : ℕ) (all : Bool) {w : Bool} (v : (all && all_plain (take (size - i) (drop (at + i) s))) ≡ w) where
-    pub chunk_on : (r : Bool) → i < size → at + size ≤ length s → r ≡ is_plain (get_or s (at + i) 0)
-        → (all && r && all_plain (take (size - (i + 1)) (drop (at + (i + 1)) s))) ≡ w
-    unfolding all_plain
-    chunk_on r h l e =
-        let a : size - i ≡ suc (size - (i + 1)) = omega arith in
-        let b : at + (i + 1) ≡ suc (at + i) = omega arith in
-        let g : at + i < length s = omega arith in
-        rw (b, e, and_assoc) (rw (a, drop-cons s (at + i) 0 g) at v)
+-- what is left of the chunk from place i of it on makes up the answer w; r is what the code's test gave of the byte there
+module _ (s : List ℕ) (i : ℕ) (all : Bool) {w : Bool} (v : (all && all_plain (drop i s)) ≡ w) where
+  pub chunk_on : (r : Bool) → i < length s → r ≡ is_plain (get_or s i 0) → (all && r && all_plain (drop (i + 1) s)) ≡ w
+  unfolding all_plain
+  chunk_on r h e = rw (e, and_assoc) (rw (drop_step s i h) at v)
 
-    pub chunk_end : size ≤ i → all ≡ w
-    unfolding all_plain
-    chunk_end h = let a : size - i ≡ 0 = omega arith in sym (and-true all) ∙ rw a at v
+  pub chunk_end : length s ≤ i → all ≡ w
+  unfolding all_plain
+  chunk_end h = sym (and-true all) ∙ rw (drop_of_length-le s h) at v
 
 pub ruleset chunk_laws = (chunk_start, chunk_on, chunk_end)
 

@@ -1,4 +1,7 @@
 -- Two texts that share a line: what reads a token or the end of a line reads the same in both.
+use Rattle.text.specs.declared.stop.Cause.{Cause}
+use Rattle.text.specs.declared.stop.Stop.{Stop}
+use Rattle.std.specs.Prelude.{None, Some, Err}
 use Prim.Native.Nat.{ℕ, zero, suc, ◌+◌, ◌-◌, ◌≤◌, ◌<◌}
 use native.Mathlib.Omega.{arith}
 use native.Mathlib.Decide.{dec_lt}
@@ -15,13 +18,10 @@ use Rattle.text.specs.Dates.{like_shape, date_shape, two, date_in, date_at}
 use Rattle.text.specs.Currencies.{currency_at}
 use Rattle.text.specs.Words.{starts_with, word_at}
 use Rattle.text.specs.Tags.{marked_at}
-use Rattle.text.specs.Refusals.{second_part_number}
+use Rattle.text.specs.Refusals.{missing_part}
 use Rattle.text.specs.Leaves.{token, dated, gap, comma, line_end, empty_line, currency, tag, link, date, word, byte, hard_gap}
 use Rattle.text.specs.Accounts.{account}
 use Rattle.text.specs.steps.Accounts.{part_follows, parts_from, account_at, account_answer}
-use Rattle.text.specs.declared.Read.{Read}
-use Rattle.text.specs.declared.account.AccountRead.{AccountRead}
-use Rattle.text.specs.declared.date.Dated.{Dated}
 use Rattle.text.proofs.TestLaws.{apart, or_left, or_right, and_left, and_right}
 use Rattle.text.proofs.Steps.{drop_step, head_drop, run_on, run_stops}
 use Rattle.text.proofs.InLine.{has_lf, no_lf}
@@ -111,7 +111,7 @@ module _ {Q : Type 0} {s z : List ℕ} {K P : ℕ → ℕ → Type 0} (L : Share
   pub gap_alike : {A : Type 0} {i j : ℕ} → K i j → Alike {A = List A} Q K (gap s i) (gap z j)
   gap_alike S = alike_map (λ i j k. k.0) (gap_at_lem S)
 
-  pub hard_gap_alike : {A : Type 0} (n : ℕ) {i j : ℕ} → K i j → Alike {A = List A} Q K (hard_gap n s i) (hard_gap n z j)
+  pub hard_gap_alike : {A : Type 0} (n : Cause) {i j : ℕ} → K i j → Alike {A = List A} Q K (hard_gap n s i) (hard_gap n z j)
   unfolding hard_gap
   hard_gap_alike n {i} {j} S = must_alike n i j (told S) (gap_alike S)
 
@@ -139,15 +139,15 @@ module _ {Q : Type 0} {s z : List ℕ} {K P : ℕ → ℕ → Type 0} (L : Share
       rw (byte_same S, lt-leb (length s) i l.0, lt-leb (length z) j l.1) (go (eqb (get_or s i 0) 10) refl (eqb (get_or s i 0) 13) refl)
     where
       go : (b : Bool) → eqb (get_or s i 0) 10 ≡ b → (c : Bool) → eqb (get_or s i 0) 13 ≡ c
-          → Alike {A = List A} Q P (token (cond b (Read.To (i + 1)) (cond (c && eqb (get_or s (i + 1) 0) 10) (Read.To (i + 2)) Read.Miss)))
-          (token (cond b (Read.To (j + 1)) (cond (c && eqb (get_or z (j + 1) 0) 10) (Read.To (j + 2)) Read.Miss)))
+          → Alike {A = List A} Q P (token (cond b (Some (i + 1)) (cond (c && eqb (get_or s (i + 1) 0) 10) (Some (i + 2)) None)))
+          (token (cond b (Some (j + 1)) (cond (c && eqb (get_or z (j + 1) 0) 10) (Some (j + 2)) None)))
       go true e c f = both_to (i + 1) (j + 1) [] [] (L.past i j S e) (λ _. refl)
       go false e false f = both_miss
       go false e true f =
           let T = L.next i j S e in
           let a : i + 1 + 1 ≡ i + 2 = omega arith in
           let b : j + 1 + 1 ≡ j + 2 = omega arith in
-          rw (byte_same T) (cond_alike token token (eqb (get_or s (i + 1) 0) 10) (Read.To (i + 2)) (Read.To (j + 2)) Read.Miss Read.Miss
+          rw (byte_same T) (cond_alike token token (eqb (get_or s (i + 1) 0) 10) (Some (i + 2)) (Some (j + 2)) None None
           (λ x. both_to (i + 2) (j + 2) [] [] (subst (λ y. P y (j + 2)) a (subst (P (i + 1 + 1)) b (L.past (i + 1) (j + 1) T x))) (λ _. refl)) (λ _. both_miss))
 
   pub line_alike : {A : Type 0} {i j : ℕ} → K i j → Alike {A = List A} Q P (line_end s i) (line_end z j)
@@ -181,12 +181,12 @@ module _ {Q : Type 0} {s z : List ℕ} {K P : ℕ → ℕ → Type 0} (L : Share
   pub account_alike : {A : Type 0} {i j : ℕ} → K i j → Alike {A = List A} Q K (account s i) (account z j)
   unfolding account_at account_answer part_follows
   account_alike {A} {i} {j} S =
-      rw (account_answers s i, account_answers z j, byte_same S) (cond_alike (account_answer second_part_number i) (account_answer second_part_number j) (starts_part (get_or s i 0)) _ _ AccountRead.Miss AccountRead.Miss
+      rw (account_answers s i, account_answers z j, byte_same S) (cond_alike (account_answer) (account_answer) (starts_part (get_or s i 0)) _ _ (Err Stop.Miss) (Err Stop.Miss)
       (λ e.
       let T = run_alike in_account no_lf.account (step starts_part no_lf.part S e) in
       rw (next_same 58 starts_part refl T)
-      (cond_alike (account_answer second_part_number i) (account_answer second_part_number j) (part_follows s (run_to in_account s (i + 1))) _ _ AccountRead.Hard AccountRead.Hard
-      (λ _. both_to _ _ [] [] (parts_alike T) (λ _. refl)) (λ _. both_hard second_part_number i j (told S))))
+      (cond_alike (account_answer) (account_answer) (part_follows s (run_to in_account s (i + 1))) _ _ (Err (Stop.Hard missing_part i)) (Err (Stop.Hard missing_part j))
+      (λ _. both_to _ _ [] [] (parts_alike T) (λ _. refl)) (λ _. both_hard missing_part i j (told S))))
       (λ _. both_miss))
 
   -- ---- the other tokens
@@ -198,21 +198,21 @@ module _ {Q : Type 0} {s z : List ℕ} {K P : ℕ → ℕ → Type 0} (L : Share
   pub currency_alike : {A : Type 0} {i j : ℕ} → K i j → Alike {A = List A} Q K (currency s i) (currency z j)
   unfolding currency currency_at token
   currency_alike {A} {i} {j} S =
-      rw (byte_same S) (cond_alike token token (is_capital (get_or s i 0)) _ _ Read.Miss Read.Miss
+      rw (byte_same S) (cond_alike token token (is_capital (get_or s i 0)) _ _ None None
       (λ e.
       let T = step is_capital no_lf.capital S e in
       let c = no_lf.currency in
       rw (run_before in_currency c T (behind S))
-      (cond_alike token token (starts_part (get_or s (run_to in_currency s (i + 1) - 1) 0)) _ _ Read.Miss Read.Miss
+      (cond_alike token token (starts_part (get_or s (run_to in_currency s (i + 1) - 1) 0)) _ _ None None
       (λ _. both_to _ _ [] [] (run_alike in_currency c T) (λ _. refl)) (λ _. both_miss)))
       (λ _. both_miss))
 
   -- a byte that starts a run, and the run
   pub started_alike : {A : Type 0} (h p : ℕ → Bool) → h 10 ≡ false → p 10 ≡ false → {i j : ℕ} → K i j
-      → Alike {A = List A} Q K (token (cond (h (get_or s i 0)) (Read.To (run_to p s (i + 1))) Read.Miss)) (token (cond (h (get_or z j 0)) (Read.To (run_to p z (j + 1))) Read.Miss))
+      → Alike {A = List A} Q K (token (cond (h (get_or s i 0)) (Some (run_to p s (i + 1))) None)) (token (cond (h (get_or z j 0)) (Some (run_to p z (j + 1))) None))
   unfolding token
   started_alike h p f g {i} {j} S =
-      rw (byte_same S) (cond_alike token token (h (get_or s i 0)) _ _ Read.Miss Read.Miss (λ e. both_to _ _ [] [] (run_alike p g (step h f S e)) (λ _. refl)) (λ _. both_miss))
+      rw (byte_same S) (cond_alike token token (h (get_or s i 0)) _ _ None None (λ e. both_to _ _ [] [] (run_alike p g (step h f S e)) (λ _. refl)) (λ _. both_miss))
 
   pub comma_alike : {A : Type 0} {i j : ℕ} → K i j → Alike {A = List A} Q K (comma s i) (comma z j)
   unfolding comma comma_at
@@ -256,7 +256,7 @@ module _ {Q : Type 0} {s z : List ℕ} {K P : ℕ → ℕ → Type 0} (L : Share
   pub word_alike : {A : Type 0} (w : List ℕ) → has_lf w ≡ false → {i j : ℕ} → K i j → Alike {A = List A} Q K (word w s i) (word w z j)
   unfolding word word_at token
   word_alike w f {i} {j} S =
-      rw (compared starts_with word_compares w f i j S) (cond_alike token token (starts_with w (drop i s)) _ _ Read.Miss Read.Miss
+      rw (compared starts_with word_compares w f i j S) (cond_alike token token (starts_with w (drop i s)) _ _ None None
       (λ e. both_to _ _ [] [] (compared_far starts_with word_compares w f i j S e (length w) _ _ (omega arith) refl refl) (λ _. refl)) (λ _. both_miss))
 
   date_lf : has_lf date_shape ≡ false
@@ -279,11 +279,11 @@ module _ {Q : Type 0} {s z : List ℕ} {K P : ℕ → ℕ → Type 0} (L : Share
         let d = two s (i + 8) in
         rw (two_same 0 i j (omega arith) (omega arith) (omega arith), two_same 2 (i + 2) (j + 2) (omega arith) refl refl)
         (rw (two_same 5 (i + 5) (j + 5) (omega arith) refl refl, two_same 8 (i + 8) (j + 8) (omega arith) refl refl)
-        (cond_alike dated dated (leb 1 m && leb m 12 && leb 1 d && leb d 31) (Dated.On (i + 10) _) (Dated.On (j + 10) _) Dated.Miss Dated.Miss
+        (cond_alike dated dated (leb 1 m && leb m 12 && leb 1 d && leb d 31) (Some ((i + 10), _)) (Some ((j + 10), _)) None None
         (λ _. both_to (i + 10) (j + 10) _ _ (date_far 10 (i + 10) (j + 10) (omega arith) refl refl) (λ _. refl)) (λ _. both_miss)))
 
   pub date_alike : {i j : ℕ} → K i j → Alike Q K (date s i) (date z j)
   unfolding date date_at dated
   date_alike {i} {j} S =
       rw (compared like_shape shape_compares date_shape date_lf i j S)
-      (cond_alike dated dated (like_shape date_shape (drop i s)) (date_in s i) (date_in z j) Dated.Miss Dated.Miss (λ e. date_in_alike S e) (λ _. both_miss))
+      (cond_alike dated dated (like_shape date_shape (drop i s)) (date_in s i) (date_in z j) None None (λ e. date_in_alike S e) (λ _. both_miss))

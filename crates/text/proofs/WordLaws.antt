@@ -1,35 +1,51 @@
--- The answers of the loop over a word.
-use Prim.Native.Nat.{ℕ, suc, ◌+◌, ◌≤◌, ◌<◌}
-use native.Mathlib.Nat.{add-zero}
+-- The answers at a word, from what is left of the text at its place.
+use Rattle.std.specs.Prelude.{None, Some}
+use Rattle.std.specs.List as std
+use Rattle.std.proofs.lemmas.Slice.{between_to_end}
+use Prim.Native.Nat.{ℕ, ◌+◌, ◌≤◌, min}
+use native.Mathlib.Decide.{dec_lt}
 use native.Mathlib.Omega.{arith}
-use mathlib.Core.Path.{◌≡◌, sym, ◌∙◌}
-use mathlib.Core.List.{List}
-use borrow.Author.Tests.{eq-eqb, ne_eqb}
-use lib.ListN.{length, drop, get_or, drop_of_length-le}
+use mathlib.Core.Path.{◌≡◌, refl, sym, ◌∙◌}
+use mathlib.Core.Bool.{Bool, true, false}
+use mathlib.Core.List.{List, [], ◌∷◌}
+use borrow.Author.Tests.{eq-eqb, ne_eqb, eqb-true, eqb-false}
+use lib.Dec.{eqb}
+use lib.ListN.{length, drop, drop_of_length-le}
 use Rattle.text.specs.Words.{starts_with, word_at}
-use Rattle.text.specs.declared.Read.{Read}
-use Rattle.text.specs.declared.Read.TheVariants.{To, Miss}
-use Rattle.text.proofs.Steps.{drop_step}
 
-after : (i n : ℕ) → i + suc n ≡ i + 1 + n
-after i n = omega arith
+-- what is left at a place: nothing past the end
+pub rest_is : (s : List ℕ) (at : ℕ) → std.slice_range s (min at (length s)) (length s) ≡ drop at s
+rest_is s at =
+    between_to_end s (min at (length s)) (length s) (omega arith) ∙ elim (dec_lt at (length s)) [
+      | yes h ↦ let e : min at (length s) ≡ at = omega arith in rw e refl
+      | no h ↦ rw (past (min at (length s)) (omega arith), past at (omega arith))
+    ]
+  where
+    past : (i : ℕ) → length s ≤ i → drop i s ≡ []
+    past i h = drop_of_length-le s h
 
--- The answer a is that of what is left of the word, at i.
-module _ (a : Read) (s w : List ℕ) (i k : ℕ) (v : a ≡ word_at (drop k w) s i) where
-  pub word_on : i < length s → k < length w → get_or s i 0 ≡ get_or w k 0 → a ≡ word_at (drop (k + 1) w) s (i + 1)
-  unfolding word_at starts_with
-  word_on h l e = v ∙ rw (drop_step s i h, drop_step w k l, eq-eqb _ _ e, after i (length (drop (k + 1) w)))
+-- a word's byte, and a text's, compared in either order
+same_head : (w b : ℕ) → eqb w b ≡ eqb b w
+same_head w b = go (eqb w b) refl
+  where
+    go : (t : Bool) → eqb w b ≡ t → t ≡ eqb b w
+    go true e = sym (eq-eqb b w (sym (eqb-true w b e)))
+    go false e = sym (ne_eqb b w (λ f. eqb-false w b e (sym f)))
 
-  pub word_differs : i < length s → k < length w → (get_or s i 0 ≡ get_or w k 0 → ⊥) → Miss ≡ a
-  unfolding word_at starts_with
-  word_differs h l e = sym (v ∙ rw (drop_step s i h, drop_step w k l, ne_eqb _ _ e))
+-- a text starts with a word as the library tells it
+same_start : (w s : List ℕ) → std.starts_with eqb s w ≡ starts_with w s
+unfolding starts_with
+same_start [] s = refl
+same_start (w ∷ ws) [] = refl
+same_start (w ∷ ws) (b ∷ s) = rw (same_start ws s, same_head w b)
 
-  pub word_short : length s ≤ i → k < length w → Miss ≡ a
-  unfolding word_at starts_with
-  word_short h l = sym (v ∙ rw (drop_of_length-le s h, drop_step w k l))
+module _ (s w rest : List ℕ) (at : ℕ) (e : rest ≡ drop at s) (t : Bool) (u : t ≡ std.starts_with eqb rest w) where
+  pub word_stands : t ≡ true → Some (at + length w) ≡ word_at w s at
+  unfolding word_at
+  word_stands v = rw (← same_start w (drop at s), ← e, ← u, v)
 
-  pub word_done : length w ≤ k → To i ≡ a
-  unfolding word_at starts_with
-  word_done l = sym (v ∙ rw (drop_of_length-le w l, add-zero))
+  pub word_differs : t ≡ false → None ≡ word_at w s at
+  unfolding word_at
+  word_differs v = rw (← same_start w (drop at s), ← e, ← u, v)
 
-pub ruleset word_laws = (word_on, word_differs, word_short, word_done)
+pub ruleset word_laws = (rest_is, word_stands, word_differs)

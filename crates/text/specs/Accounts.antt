@@ -4,7 +4,7 @@ use Rattle.std.specs.Prelude.{ℕ, suc, ◌+◌, cond, List, [], length, get_or}
 use Prim.Native.Char.{code}
 use Rattle.text.specs.Bytes.{in_account, starts_part}
 use Rattle.text.specs.Run.{run_to}
-use Rattle.text.specs.Refusals.{second_part_number}
+use Rattle.text.specs.Refusals.{missing_part}
 use Rattle.text.specs.Answer.{Ans, To, Miss, must, ◌and◌, many}
 use Rattle.text.specs.Leaves.{byte}
 
@@ -18,4 +18,4 @@ next_part s at = byte (code ":") s at and λ b. account_part s b
 
 -- two or more parts; the second is required after a first one, and its refusal stands at the account's start
 unfoldable pub account : {A : Type 0} → List ℕ → ℕ → Ans (List A)
-account s at = account_part s at and λ e. must second_part_number at (next_part s e) and λ f. many (next_part s) (suc (length s)) f
+account s at = account_part s at and λ e. must missing_part at (next_part s e) and λ f. many (next_part s) (suc (length s)) f

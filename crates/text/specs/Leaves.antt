@@ -1,5 +1,6 @@
 -- The tokens as readers that answer as every rule does, at a place of a text. Accounts has the account.
-use Rattle.std.specs.Prelude.{ℕ, ◌+◌, cond, List, [], eqb, get_or}
+use Rattle.text.specs.declared.stop.Cause.{Cause}
+use Rattle.std.specs.Prelude.{ℕ, ◌+◌, cond, List, [], eqb, get_or, None, Option, Some}
 use Rattle.text.specs.Answer.{Ans, To, Miss, must}
 use Rattle.text.specs.Lines.{gap_at, comma_at, line_end_at, empty_at}
 use Rattle.text.specs.Dates.{date_at}
@@ -7,17 +8,15 @@ use Rattle.text.specs.Strings.{string_at}
 use Rattle.text.specs.Currencies.{currency_at}
 use Rattle.text.specs.Words.{word_at}
 use Rattle.text.specs.Tags.{tag_at, link_at}
-use Rattle.text.specs.declared.Read.{Read}
-use Rattle.text.specs.declared.date.Dated.{Dated}
 
 -- a token makes no rows
-unfoldable pub token : {A : Type 0} → Read → Ans (List A)
-token (Read.To j) = To j []
-token Read.Miss = Miss
+unfoldable pub token : {A : Type 0} → Option ℕ → Ans (List A)
+token (Some j) = To j []
+token None = Miss
 
-unfoldable pub dated : Dated → Ans ℕ
-dated (Dated.On j d) = To j d
-dated Dated.Miss = Miss
+unfoldable pub dated : Option (ℕ × ℕ) → Ans ℕ
+dated (Some (j, d)) = To j d
+dated None = Miss
 
 module _ {A : Type 0} (s : List ℕ) (at : ℕ) where
   unfoldable pub gap : Ans (List A)
@@ -45,7 +44,7 @@ module _ {A : Type 0} (s : List ℕ) (at : ℕ) where
   link = token (link_at s at)
 
 -- a gap that is required
-unfoldable pub hard_gap : {A : Type 0} → ℕ → List ℕ → ℕ → Ans (List A)
+unfoldable pub hard_gap : {A : Type 0} → Cause → List ℕ → ℕ → Ans (List A)
 hard_gap n s at = must n at (gap s at)
 
 unfoldable pub date : List ℕ → ℕ → Ans ℕ

@@ -1,22 +1,33 @@
--- The numbers of the refusals that are met while an entry is read, and what is said of a call's refusal.
+-- The refusals that are met while an entry is read, with their numbers, and what is said of a call's refusal.
+use Rattle.text.specs.declared.stop.Refused.{Refused}
 use Rattle.std.specs.Prelude.{ℕ, ◌≤◌, ◌≡◌, List}
 use Rattle.text.specs.Every.{OneOf}
+use Rattle.text.specs.declared.stop.Cause.{Cause}
+use Rattle.text.specs.declared.stop.Cause.TheVariants.{TooDeep, Missing}
+
+abbrev pub cause_number : Cause → ℕ
+cause_number TooDeep = 3
+cause_number Missing = 4
 
 -- a group opens inside 32 open ones
-abbrev pub deep_number : ℕ
-deep_number = 3
+abbrev pub too_deep : Cause
+too_deep = TooDeep
 
 -- a required part is missing
-abbrev pub required_number : ℕ
-required_number = 4
+abbrev pub missing : Cause
+missing = Missing
 
 -- the gap after a date, a directive's keyword or `include` is missing
-abbrev pub word_gap_number : ℕ
-word_gap_number = required_number
+abbrev pub missing_gap : Cause
+missing_gap = missing
 
 -- an account has no second part
-abbrev pub second_part_number : ℕ
-second_part_number = required_number
+abbrev pub missing_part : Cause
+missing_part = missing
+
+-- a call's refusal: its number, its place and its count
+abbrev pub refused_with : ℕ → ℕ → ℕ → Refused
+refused_with n p c = record { number = n; place = p; count = c }
 
 -- number n at place p, of a text of `size` bytes: n is one of the call's list, p stands within the text, and is 0 for 1
 pub record Refusal (list : List ℕ) (size n p : ℕ) : Type 0 where

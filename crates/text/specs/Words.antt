@@ -1,7 +1,5 @@
 -- Words: fixed byte strings, compared byte for byte at a place.
-use Rattle.std.specs.Prelude.{ℕ, ◌+◌, Bool, true, false, cond, ◌&&◌, List, [], ◌∷◌, eqb, drop, length}
-use Rattle.text.specs.declared.Read.{Read}
-use Rattle.text.specs.declared.Read.TheVariants.{To, Miss}
+use Rattle.std.specs.Prelude.{ℕ, ◌+◌, Bool, true, false, cond, ◌&&◌, List, [], ◌∷◌, eqb, drop, length, None, Option, Some}
 
 -- whether a text starts with a word
 unfoldable pub starts_with : List ℕ → List ℕ → Bool
@@ -9,5 +7,5 @@ starts_with [] s = true
 starts_with (w ∷ ws) [] = false
 starts_with (w ∷ ws) (b ∷ s) = eqb b w && starts_with ws s
 
-unfoldable pub word_at : List ℕ → List ℕ → ℕ → Read
-word_at w s at = cond (starts_with w (drop at s)) (To (at + length w)) Miss
+unfoldable pub word_at : List ℕ → List ℕ → ℕ → Option ℕ
+word_at w s at = cond (starts_with w (drop at s)) (Some (at + length w)) None

@@ -3,3 +3,4 @@ pub mod Stretch
 pub mod Classes
 pub mod Accounts
 pub mod Windows
+pub mod Told

@@ -5,20 +5,13 @@ ghost use Rattle.text.specs.Run.{run_to};
 ghost use Rattle.text.specs.steps.Accounts.{parts_from, account_at};
 ghost use Rattle.text.specs.steps.Windows.{goes_on, first_stop};
 
+use crate::stop::{Cause, Stop};
 use crate::{bytes, window};
 
 // The bytes of a window, and what stands for no place in it.
 const WINDOW: usize = 16;
 
 const NONE: u8 = 16;
-
-// An account's reading. After a first part, missing the second is hard.
-#[derive(Clone, Copy)]
-pub enum AccountRead {
-    To(usize),
-    Miss,
-    Hard,
-}
 
 // Whether an account that is read as far as a byte goes on with it. The colon comes directly behind the digits.
 fn goes_on(b: u8, next: u8) -> bool
@@ -37,12 +30,10 @@ fn stop_in(s: &[u8], at: usize) -> u8
     ensures { result ≡ first_stop (λ j. goes_on (get_or s.now (at + j) 0) (get_or s.now (at + j + 1) 0)) 16 16 }
 {
     let mut first = NONE;
-    let mut i: u8 = 0;
-    while i < NONE {
-        let p = at + bytes::wide(i);
+    for i in 0..NONE {
+        let p = at + usize::from(i);
         let on = goes_on(s[p], s[p + 1]);
-        first = window::lesser(first, window::stop_unless(on, NONE, i));
-        i += 1;
+        first = first.min(window::stop_unless(on, NONE, i));
     }
     first
 }
@@ -51,15 +42,12 @@ fn stop_in(s: &[u8], at: usize) -> u8
 fn short_end(s: &[u8], at: usize) -> usize
     ensures { result ≡ parts_from (drop at s.now) at }
 {
-    let mut i = at;
-    while i < s.len() {
-        if goes_on(s[i], bytes::peek(s, i + 1)) {
-            i += 1;
-        } else {
+    for i in at..s.len() {
+        if !goes_on(s[i], bytes::peek(s, i + 1)) {
             return i;
         }
     }
-    i
+    at.max(s.len())
 }
 
 // The same in windows, and byte by byte where the text has no window left.
@@ -69,10 +57,11 @@ fn parts_end(s: &[u8], at: usize) -> usize
     let mut i = at;
     if WINDOW < s.len() {
         let last = s.len() - WINDOW;
+        // No `for`: a turn passes a window, and where the windows end is read behind the loop.
         while i < last {
             let n = stop_in(s, i);
             if n < NONE {
-                return i + bytes::wide(n);
+                return i + usize::from(n);
             }
             i += WINDOW;
         }
@@ -85,27 +74,26 @@ fn first_part_end(s: &[u8], at: usize, end: usize) -> usize
     requires { end ≡ parts_from (drop at s.now) at }
     ensures { result ≡ run_to in_account s.now at }
 {
-    let mut i = at;
-    while i < end {
+    for i in at..end {
         if s[i] == b':' {
             return i;
         }
-        i += 1;
     }
-    i
+    end
 }
 
-pub fn account(s: &[u8], at: usize) -> AccountRead
+// After a first part, missing the second is hard.
+pub fn account(s: &[u8], at: usize) -> Result<usize, Stop>
     ensures { result ≡ account_at s.now at }
 {
     if at < s.len() {
         if bytes::starts_part(s[at]) {
             let end = parts_end(s, at + 1);
             if first_part_end(s, at + 1, end) < end {
-                return AccountRead::To(end);
+                return Ok(end);
             }
-            return AccountRead::Hard;
+            return Err(Stop::Hard(Cause::Missing, at));
         }
     }
-    AccountRead::Miss
+    Err(Stop::Miss)
 }

@@ -1,27 +1,12 @@
 // Byte classes. The bytes that are met most often are tested first.
-ghost use Rattle.std.specs.Prelude.{◌≡◌, ◌≤◌, get_or};
+ghost use Rattle.std.specs.Prelude.{◌≡◌, get_or};
 ghost use Rattle.text.specs.Bytes.{is_blank, is_space, is_digit, is_small, is_capital, in_line, in_comment, is_ordinary, is_escaped, starts_part, in_currency};
 
-// The byte at a place, or 0 past the end.
+// The byte at a place, or 0 past the end, as the definitions have it (`get_or`).
 pub fn peek(s: &[u8], at: usize) -> u8
     ensures { result ≡ get_or s.now at 0 }
 {
     if at < s.len() { s[at] } else { 0 }
-}
-
-// A byte as a number.
-pub fn wide(b: u8) -> usize
-    ensures { result ≡ b }
-{
-    b as usize
-}
-
-// A number as a byte.
-pub fn narrow(n: usize) -> u8
-    requires { n ≤ 255 }
-    ensures { result ≡ n }
-{
-    n as u8
 }
 
 pub fn is_blank(b: u8) -> bool

@@ -3,9 +3,9 @@ ghost use Rattle.std.specs.Prelude.{◌≡◌};
 ghost use Rattle.text.specs.Currencies.{currency_at};
 
 use crate::run::Class;
-use crate::{Read, bytes, run, window};
+use crate::{bytes, run, window};
 
-pub fn currency(s: &[u8], at: usize) -> Read
+pub fn currency(s: &[u8], at: usize) -> Option<usize>
     ensures { result ≡ currency_at s.now at }
 {
     if at < s.len() {
@@ -15,12 +15,12 @@ pub fn currency(s: &[u8], at: usize) -> Read
             if bytes::in_currency(bytes::peek(s, c)) {
                 let e = window::currency_run(s, c + 1);
                 if bytes::starts_part(bytes::peek(s, e - 1)) {
-                    return Read::To(e);
+                    return Some(e);
                 }
-                return Read::Miss;
+                return None;
             }
-            return Read::To(c);
+            return Some(c);
         }
     }
-    Read::Miss
+    None
 }

@@ -5,35 +5,12 @@ ghost use Rattle.text.specs.Dates.{like_shape, date_shape, two, date_in, date_at
 
 use crate::bytes;
 
-// A date that was read: where it ends, and year times 10,000 plus month times 100 plus day.
-#[derive(Clone, Copy)]
-pub enum Dated {
-    On(usize, u32),
-    Miss,
-}
-
-// A date's number, as wide as a place.
-pub fn wide_date(n: u32) -> usize
-    ensures { result ≡ n }
-{
-    n as usize
-}
-
-fn wide(b: u8) -> u32
-    ensures { result ≡ b }
-{
-    b as u32
-}
-
 // A digit's value.
 fn digit(b: u8) -> u32
     ensures value { result ≡ b - 48 }
     ensures upper_bound { result ≤ 207 }
 {
-    if b < b'0' {
-        return 0;
-    }
-    wide(b) - 48
+    u32::from(b.saturating_sub(b'0'))
 }
 
 // Two digits as a number.
@@ -67,7 +44,7 @@ fn shape(s: &[u8], at: usize) -> bool
 }
 
 // The date whose shape stands at a place: month 01 to 12, day 01 to 31.
-fn date_in(s: &[u8], at: usize) -> Dated
+fn date_in(s: &[u8], at: usize) -> Option<(usize, u32)>
     requires { at + 10 ≤ length s.now }
     ensures { result ≡ date_in s.now at }
 {
@@ -76,22 +53,22 @@ fn date_in(s: &[u8], at: usize) -> Dated
     if (1 <= m) & (m <= 12) & (1 <= d) & (d <= 31) {
         let y = two_digits(s, at);
         let z = two_digits(s, at + 2);
-        return Dated::On(at + 10, y * 1000000 + z * 10000 + m * 100 + d);
+        return Some((at + 10, y * 1000000 + z * 10000 + m * 100 + d));
     }
-    Dated::Miss
+    None
 }
 
-pub fn date(s: &[u8], at: usize) -> Dated
+pub fn date(s: &[u8], at: usize) -> Option<(usize, u32)>
     ensures { result ≡ date_at s.now at }
 {
     if s.len() < 10 {
-        return Dated::Miss;
+        return None;
     }
     if s.len() - 10 < at {
-        return Dated::Miss;
+        return None;
     }
     if shape(s, at) {
         return date_in(s, at);
     }
-    Dated::Miss
+    None
 }

@@ -7,16 +7,9 @@ pub mod currency;
 pub mod date;
 pub mod line;
 pub mod permitted;
-pub mod refusal;
 pub mod run;
+pub mod stop;
 pub mod string;
 pub mod tag;
 pub mod window;
 pub mod word;
-
-// What a token's reader answers: it read up to a place, or it missed.
-#[derive(Clone, Copy)]
-pub enum Read {
-    To(usize),
-    Miss,
-}

@@ -45,10 +45,8 @@ fn plain_chunk(s: &[u8], at: usize) -> bool
     ensures { result ≡ all_plain (take 64 (drop at s.now)) }
 {
     let mut all = true;
-    let mut i = 0;
-    while i < CHUNK {
-        all = all & is_plain(s[at + i]);
-        i += 1;
+    for &b in &s[at..at + CHUNK] {
+        all &= is_plain(b);
     }
     all
 }
@@ -58,15 +56,12 @@ fn clean_to(s: &[u8], from: usize, to: usize) -> usize
     requires { (from ≤ to) × (to ≤ length s.now) }
     ensures { result ≡ min (clean_end s.now from) to }
 {
-    let mut i = from;
-    while i < to {
-        if may_stand(s, i) {
-            i += 1;
-        } else {
+    for i in from..to {
+        if !may_stand(s, i) {
             return i;
         }
     }
-    i
+    to
 }
 
 // How many bytes stand before the first that a ledger may not hold: all of them where there is none. A chunk that is
@@ -76,6 +71,7 @@ pub fn clean_prefix(s: &[u8]) -> usize
     ensures upper_bound { result ≤ length s.now }
 {
     let mut i = 0;
+    // No `for`: a turn passes a chunk, and where the chunks end is read behind the loop.
     while CHUNK <= s.len() - i {
         if plain_chunk(s, i) {
             i += CHUNK;

@@ -6,7 +6,8 @@ ghost use Rattle.text.specs.steps.Classes.{in_class};
 use crate::bytes;
 
 // The classes of which a rule takes the longest run. Those with more kinds of bytes are in `window`.
-#[derive(Clone, Copy)]
+// An enum and no closure: the rules name these five, and a closure's contract would have to name the same predicate.
+#[derive(Clone, Copy, Debug, PartialEq, Eq)]
 pub enum Class {
     Blank,
     Space,
@@ -32,13 +33,10 @@ pub fn run(s: &[u8], at: usize, k: Class) -> usize
     ensures value { result ≡ run_to (in_class k) s.now at }
     ensures lower_bound { at ≤ result }
 {
-    let mut i = at;
-    while i < s.len() {
-        if in_class(k, s[i]) {
-            i += 1;
-        } else {
+    for i in at..s.len() {
+        if !in_class(k, s[i]) {
             return i;
         }
     }
-    i
+    at.max(s.len())
 }

@@ -2,32 +2,33 @@
 ghost use Rattle.std.specs.Prelude.{◌≡◌, false, ◌<◌, length, drop};
 ghost use Rattle.text.specs.Strings.{str_from, string_at};
 
-use crate::{Read, bytes};
+use crate::bytes;
 
 // The rest of a string, from after its opening quote: an escape needs an ordinary byte before it, so it stands neither
 // there nor where the last escape ended. The text's last byte, behind which no escaped one comes, is looked at by
 // itself.
-fn string_rest(s: &[u8], at: usize) -> Read
+fn string_rest(s: &[u8], at: usize) -> Option<usize>
     requires { 0 < length s.now }
     ensures { result ≡ str_from false (drop at s.now) at }
 {
     let last = s.len() - 1;
     let mut start = at;
     let mut i = at;
+    // No `for`: a turn passes one byte or the two of an escape.
     while i < last {
         let b = s[i];
         if b == b'"' {
-            return Read::To(i + 1);
+            return Some(i + 1);
         }
         if b == b'\\' {
             if i == start {
-                return Read::Miss;
+                return None;
             }
             if bytes::is_escaped(s[i + 1]) {
                 i += 2;
                 start = i;
             } else {
-                return Read::Miss;
+                return None;
             }
         } else {
             i += 1;
@@ -35,13 +36,13 @@ fn string_rest(s: &[u8], at: usize) -> Read
     }
     if i == last {
         if s[i] == b'"' {
-            return Read::To(i + 1);
+            return Some(i + 1);
         }
     }
-    Read::Miss
+    None
 }
 
-pub fn string(s: &[u8], at: usize) -> Read
+pub fn string(s: &[u8], at: usize) -> Option<usize>
     ensures { result ≡ string_at s.now at }
 {
     if at < s.len() {
@@ -49,5 +50,5 @@ pub fn string(s: &[u8], at: usize) -> Read
             return string_rest(s, at + 1);
         }
     }
-    Read::Miss
+    None
 }

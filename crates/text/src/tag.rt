@@ -2,26 +2,26 @@
 ghost use Rattle.std.specs.Prelude.{◌≡◌};
 ghost use Rattle.text.specs.Tags.{tag_at, link_at};
 
-use crate::{Read, window};
+use crate::window;
 
-pub fn tag(s: &[u8], at: usize) -> Read
+pub fn tag(s: &[u8], at: usize) -> Option<usize>
     ensures { result ≡ tag_at s.now at }
 {
     if at < s.len() {
         if s[at] == b'#' {
-            return Read::To(window::tag_run(s, at + 1));
+            return Some(window::tag_run(s, at + 1));
         }
     }
-    Read::Miss
+    None
 }
 
-pub fn link(s: &[u8], at: usize) -> Read
+pub fn link(s: &[u8], at: usize) -> Option<usize>
     ensures { result ≡ link_at s.now at }
 {
     if at < s.len() {
         if s[at] == b'^' {
-            return Read::To(window::link_run(s, at + 1));
+            return Some(window::link_run(s, at + 1));
         }
     }
-    Read::Miss
+    None
 }

@@ -12,15 +12,8 @@ const WINDOW: usize = 32;
 
 const NONE: u8 = 32;
 
-// A function of its own, apart from the next: only so does the compiler see a minimum over the window, for which it
-// needs no branch.
-pub fn lesser(a: u8, b: u8) -> u8
-    ensures { result ≡ min a b }
-{
-    if a < b { a } else { b }
-}
-
-// The place where a run stops, or what stands for none where it goes on.
+// The place where a run stops, or what stands for none where it goes on. A function of its own: only so does the
+// compiler see a minimum over the window, for which it needs no branch.
 pub fn stop_unless(on: bool, none: u8, place: u8) -> u8
     ensures { result ≡ cond on none place }
 {
@@ -45,11 +38,9 @@ fn stop_in(s: &[u8], at: usize, small: u8, x: u8, y: u8) -> u8
     ensures { result ≡ first_stop (λ j. is_among small x y (get_or s.now (at + j) 0)) 32 32 }
 {
     let mut first = NONE;
-    let mut i: u8 = 0;
-    while i < NONE {
-        let on = is_among(s[at + bytes::wide(i)], small, x, y);
-        first = lesser(first, stop_unless(on, NONE, i));
-        i += 1;
+    for i in 0..NONE {
+        let on = is_among(s[at + usize::from(i)], small, x, y);
+        first = first.min(stop_unless(on, NONE, i));
     }
     first
 }
@@ -58,15 +49,12 @@ fn stop_in(s: &[u8], at: usize, small: u8, x: u8, y: u8) -> u8
 fn short_run(s: &[u8], at: usize, small: u8, x: u8, y: u8) -> usize
     ensures { result ≡ run_to (is_among small x y) s.now at }
 {
-    let mut i = at;
-    while i < s.len() {
-        if is_among(s[i], small, x, y) {
-            i += 1;
-        } else {
+    for i in at..s.len() {
+        if !is_among(s[i], small, x, y) {
             return i;
         }
     }
-    i
+    at.max(s.len())
 }
 
 // The run in windows, and byte by byte where the text has no window left.
@@ -76,10 +64,11 @@ fn run_of(s: &[u8], at: usize, small: u8, x: u8, y: u8) -> usize
     let mut i = at;
     if WINDOW <= s.len() {
         let last = s.len() - WINDOW;
+        // No `for`: a turn passes a window, and where the windows end is read behind the loop.
         while i <= last {
             let n = stop_in(s, i, small, x, y);
             if n < NONE {
-                return i + bytes::wide(n);
+                return i + usize::from(n);
             }
             i += WINDOW;
         }

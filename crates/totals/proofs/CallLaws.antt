@@ -1,8 +1,12 @@
 -- Monthly totals: what is answered and left, each from what the code knows where it answers.
+use Rattle.text.specs.Refusals.{refused_with}
+use Rattle.text.specs.declared.stop.Refused.{Refused}
+use Rattle.std.specs.Prelude.{Err, Ok, Result}
 use Prim.Native.Nat.{ℕ, ◌*◌, ◌-◌, ◌≤◌, ◌<◌}
 use native.Mathlib.Omega.{arith}
 use mathlib.Core.Path.{◌≡◌, sym, ap, ◌∙◌}
 use mathlib.Core.Bool.{Bool, true, false, cond, ◌&&◌}
+use mathlib.Core.Logic.{◌⊎◌, ⊎_elim}
 use mathlib.Core.List.{List, ◌++◌, map, append-nil}
 use borrow.Author.Tests.{le-leb, lt-leb}
 use borrow.Rule.Slice.PartMut.{put_mid}
@@ -18,14 +22,12 @@ use Rattle.order.specs.Records.{record_width, records_bytes}
 use Rattle.order.specs.steps.Buffers.{record_room, put_records, said_in, Ordered, records_of, sorted_bytes}
 use Rattle.ledger.specs.Plain.{Reading, accepted, plain}
 use Rattle.ledger.specs.steps.Scan.{scan_answer}
-use Rattle.ledger.specs.declared.scan.Scan.{Scan}
 use Rattle.ledger.proofs.ReadLaws.{whole_reads, stopped_denies}
 use Rattle.order.specs.Order.{said, by}
 use Rattle.order.specs.Groups.{listed, items, counted}
 use Rattle.order.proofs.HalfLaws.{bytes_ordered}
 use Rattle.order.proofs.RunLaws.{place_in}
 use Rattle.walk.specs.Postings.{dated, postings}
-use Rattle.totals.specs.declared.totals.Answer.{Answer}
 use Rattle.totals.specs.Totals.{totals_of, Outcome, is_month, need, settled, decided, answer_of, items_left, work_left, Done}
 use Rattle.totals.specs.steps.Listing.{item_row_in, placed, items_put}
 use Rattle.totals.specs.steps.Months.{Accepted, rows_of, month_postings, AllHeld, listed_month}
@@ -54,7 +56,7 @@ module _ (s : List ℕ) (y m : ℕ) (w b v : List ℕ) (lw : length w ≡ length
   pub month_ordered : Ordered (by (said_in s)) (records_of v)
   month_ordered = rw sorted_v (bytes_ordered s b)
 
-  pub month_answer : (r : Answer) (n : ℕ) → r ≡ placed (counted (λ x. (fields_in x).start) 0 (listed (said_in s) (records_of v))) n → r ≡ answer_of (listed_month s y m n)
+  pub month_answer : (r : Result ℕ Refused) (n : ℕ) → r ≡ placed (counted (λ x. (fields_in x).start) 0 (listed (said_in s) (records_of v))) n → r ≡ answer_of (listed_month s y m n)
   unfolding listed_month
   month_answer r n e =
       e
@@ -100,15 +102,12 @@ module _ (s : List ℕ) (y m room work spare : ℕ) where
       enough : used ≤ work → used ≤ spare → decided s y m room work spare (plain s) ≡ listed_month s y m room
       enough h k = let q : used ≡ length (month_postings s y m) * record_width = omega arith in in_month ∙ rw (← q, le-leb used work h, le-leb used spare k)
 
-      short_work : work < used → decided s y m room work spare (plain s) ≡ Outcome.early 9 1 used
-      short_work h = too_short_lem (rw (lt-leb used work h))
-
-      short_spare : used ≤ work → spare < used → decided s y m room work spare (plain s) ≡ Outcome.early 9 1 used
-      short_spare h k = too_short_lem (rw (le-leb used work h, lt-leb used spare k))
+      short : (work < used) ⊎ ((used ≤ work) × (spare < used)) → decided s y m room work spare (plain s) ≡ Outcome.early 9 1 used
+      short h = too_short_lem (⊎_elim (λ k. rw (lt-leb used work k)) (λ k. rw (le-leb used work k.0, lt-leb used spare k.1)) h)
 
 -- ---- what is answered and left: refused before the working spaces are used
 
-early_done : (D : Outcome) (n p c : ℕ) → D ≡ Outcome.early n p c → (t w u : List ℕ) (r : Answer) → r ≡ Answer.Refusal n p c → Done D t w u r t w u
+early_done : (D : Outcome) (n p c : ℕ) → D ≡ Outcome.early n p c → (t w u : List ℕ) (r : Result ℕ Refused) → r ≡ Err (refused_with n p c) → Done D t w u r t w u
 unfolding answer_of items_left work_left
 early_done D n p c e t w u r q = record { answer = q ∙ rw e; in_items = rw e; in_work = rw e; in_spare = rw e }
 
@@ -125,11 +124,8 @@ module _ (s : List ℕ) (y m : ℕ) (A : Accepted s) (e : is_month m ≡ true) (
   abbrev D : Outcome
   D = decided s y m (length t) (length w) (length u) (plain s)
 
-  pub done_work : (r : Answer) → length w < used → r ≡ Answer.Refusal 9 1 used → Done D t w u r t w u
-  done_work r h q = early_done D 9 1 used (short_work s y m (length t) (length w) (length u) A e n used en eu h) t w u r q
-
-  pub done_spare : (r : Answer) → used ≤ length w → length u < used → r ≡ Answer.Refusal 9 1 used → Done D t w u r t w u
-  done_spare r h k q = early_done D 9 1 used (short_spare s y m (length t) (length w) (length u) A e n used en eu h k) t w u r q
+  pub done_short : (r : Result ℕ Refused) → (length w < used) ⊎ ((used ≤ length w) × (length u < used)) → r ≡ Err (refused_with 9 1 used) → Done D t w u r t w u
+  done_short r h q = early_done D 9 1 used (short s y m (length t) (length w) (length u) A e n used en eu h) t w u r q
 
   module _ (h : used ≤ length w) (k : used ≤ length u) where
     -- the working spaces have room for what is asked of them
@@ -147,7 +143,7 @@ module _ (s : List ℕ) (y m : ℕ) (A : Accepted s) (e : is_month m ≡ true) (
         ∙ sym (work_settled (length (month_postings s y m) * record_width) _ (length t) _ w₀)
         ∙ ap (λ (x : Outcome). work_left x w₀) (sym (enough s y m (length t) (length w) (length u) A e n used en eu h k))
 
-    pub done_listed : (r : Answer) (t' x w' z u' : List ℕ) → r ≡ answer_of (listed_month s y m (length t)) → t' ≡ items_left (listed_month s y m (length t)) t
+    pub done_listed : (r : Result ℕ Refused) (t' x w' z u' : List ℕ) → r ≡ answer_of (listed_month s y m (length t)) → t' ≡ items_left (listed_month s y m (length t)) t
         → length x ≡ length (take (used - 0) (drop 0 w)) → w' ≡ cleared used (put_mid 0 (used - 0) w x)
         → length z ≡ length (take (used - 0) (drop 0 u)) → u' ≡ cleared used (put_mid 0 (used - 0) u z) → Done D t w u r t' w' u'
     done_listed r t' x w' z u' er et lx ew lz eu' =
@@ -159,23 +155,28 @@ module _ (s : List ℕ) (y m : ℕ) (A : Accepted s) (e : is_month m ≡ true) (
           in_spare = cleared_month u u' (front_cleared u z u' used k lz eu');
         }
 
-pub ruleset month_done = (done_work, done_spare, done_room, done_listed)
+pub ruleset month_done = (done_short, done_room, done_listed)
 
 -- ---- the whole call, by the verdict v
 
-module _ (s : List ℕ) (y m : ℕ) (t w u : List ℕ) (v : Scan) (ev : v ≡ scan_answer (plain s)) where
+abbrev stopped_with : Refused → Result ℕ Refused
+stopped_with x = Err x
+
+module _ (s : List ℕ) (y m : ℕ) (t w u : List ℕ) (v : Result ℕ Refused) (ev : v ≡ scan_answer (plain s)) where
   abbrev E : Outcome
   E = decided s y m (length t) (length w) (length u) (plain s)
 
-  pub done_stopped : (n p : ℕ) (r : Answer) → v ≡ Scan.Stopped n p → r ≡ Answer.Refusal n p 0 → Done E t w u r t w u
+  pub done_stopped : (x : Refused) (r : Result ℕ Refused) → v ≡ Err x → r ≡ Err x → Done E t w u r t w u
   unfolding decided
-  done_stopped n p r q e = early_done E n p 0 (rw (stopped_denies n p (plain s) (sym q ∙ ev))) t w u r e
+  done_stopped x r q e =
+      let d = stopped_denies x (plain s) (sym q ∙ ev) in
+      early_done E x.number x.place 0 (rw d.0) t w u r (e ∙ ap stopped_with d.1)
 
-  module _ (n : ℕ) (q : v ≡ Scan.Whole n) where
+  module _ (n : ℕ) (q : v ≡ Ok n) where
     pub done_accepted : Accepted s
     done_accepted = let z = whole_reads n (plain s) (sym q ∙ ev) in record { rows = z.0; reads = z.1 }
 
-    pub done_no_month : (b : Bool) (r : Answer) → b ≡ is_month m → b ≡ false → r ≡ Answer.Refusal 15 0 0 → Done E t w u r t w u
+    pub done_no_month : (b : Bool) (r : Result ℕ Refused) → b ≡ is_month m → b ≡ false → r ≡ Err (refused_with 15 0 0) → Done E t w u r t w u
     unfolding decided
     done_no_month b r eb h e = early_done E 15 0 0 (rw (done_accepted.reads, ← eb, h)) t w u r e
 

@@ -1,4 +1,7 @@
 -- What a buffer of the postings' bytes comes to, sorted and listed, is what the postings themselves come to.
+use Rattle.text.specs.declared.stop.Refused.{Refused}
+use Rattle.text.specs.Refusals.{refused_with}
+use Rattle.std.specs.Prelude.{Err, Ok, Result}
 use Prim.Native.Nat.{ℕ, suc, ◌+◌, ◌*◌}
 use native.Mathlib.Nat.{add-zero}
 use native.Mathlib.Omega.{arith}
@@ -18,7 +21,6 @@ use Rattle.order.specs.Records.{record_width, records_bytes}
 use Rattle.order.specs.steps.Buffers.{record_room, said_in, records_of, joined, sorted_bytes}
 use Rattle.order.specs.Order.{said}
 use Rattle.order.specs.Groups.{Item, listed, items, is_known, counted}
-use Rattle.order.specs.declared.runs.Counted.{Counted}
 use Rattle.order.proofs.RecordLaws.{Wide, records_joined}
 use Rattle.order.proofs.HalfLaws.{records_sorted}
 use Rattle.order.proofs.RunLaws.{place_in}
@@ -26,7 +28,6 @@ use Rattle.order.proofs.SaidLaws.{on_first, items_map, counted_map}
 use Rattle.totals.specs.Totals.{item_row, Outcome, settled, answer_of, items_left, work_left}
 use Rattle.totals.specs.steps.Listing.{head_row, item_row_in, placed, items_put}
 use Rattle.totals.specs.steps.Months.{AllHeld}
-use Rattle.totals.specs.declared.totals.Answer.{Answer}
 
 -- ---- rows as records
 
@@ -54,48 +55,48 @@ held_rows (r ∷ rs) h = rw (row_back r h.0, held_rows rs h.1)
 
 -- ---- the number of the items
 
-pub counted_length : {A : Type 0} (place : A → ℕ) (k n : ℕ) (is : List (Item A)) → counted place k is ≡ Counted.Items n → n ≡ k + length is
+pub counted_length : {A : Type 0} (place : A → ℕ) (k n : ℕ) (is : List (Item A)) → counted place k is ≡ Ok n → n ≡ k + length is
 unfolding counted
 counted_length place k n [] e = let f : k ≡ n = cc in rw add-zero (sym f)
 counted_length place k n (i ∷ is) e = go (is_known i.sum) (place i.first) e (counted_length place (k + 1) n is)
   where
-    go : (b : Bool) (c : ℕ) → cond b (counted place (k + 1) is) (Counted.Large c) ≡ Counted.Items n
-        → (counted place (k + 1) is ≡ Counted.Items n → n ≡ k + 1 + length is) → n ≡ k + suc (length is)
+    go : (b : Bool) (c : ℕ) → cond b (counted place (k + 1) is) (Err (refused_with 6 c 0)) ≡ Ok n
+        → (counted place (k + 1) is ≡ Ok n → n ≡ k + 1 + length is) → n ≡ k + suc (length is)
     go true c f ih = omega (arith, ih f)
     go false c f ih = absurd (let z : ◌≡◌ {A = ℕ} 0 1 = cc in omega arith)
 
 -- ---- an outcome, by the count: the number that it tells is that of the items
 
 module _ (used : ℕ) (is : List (Item Row)) where
-  answer_settled : (room : ℕ) (c : Counted) → ((n : ℕ) → c ≡ Counted.Items n → n ≡ length is) → answer_of (settled used room is c) ≡ placed c room
+  answer_settled : (room : ℕ) (c : Result ℕ Refused) → ((n : ℕ) → c ≡ Ok n → n ≡ length is) → answer_of (settled used room is c) ≡ placed c room
   unfolding settled answer_of placed
-  answer_settled room (Counted.Items k) h = go (leb (k * record_width) room)
+  answer_settled room (Ok k) h = go (leb (k * record_width) room)
     where
-      go : (b : Bool) → answer_of (cond b (Outcome.gives used (map item_row is)) (Outcome.late used 9 0 (k * record_width))) ≡ cond b (Answer.Items k) (Answer.Refusal 9 0 (k * record_width))
-      go true = ap Answer.Items (length-map is item_row ∙ sym (h k refl))
+      go : (b : Bool) → answer_of (cond b (Outcome.gives used (map item_row is)) (Outcome.late used 9 0 (k * record_width))) ≡ cond b (Ok k) (Err (refused_with 9 0 (k * record_width)))
+      go true = ap Ok (length-map is item_row ∙ sym (h k refl))
       go false = refl
-  answer_settled room (Counted.Large a) h = refl
+  answer_settled room (Err x) h = refl
 
-  items_settled : (t : List ℕ) (c : Counted) → ((n : ℕ) → c ≡ Counted.Items n → n ≡ length is)
+  items_settled : (t : List ℕ) (c : Result ℕ Refused) → ((n : ℕ) → c ≡ Ok n → n ≡ length is)
       → items_left (settled used (length t) is c) t ≡ items_put c (map item_row is) t
   unfolding settled items_left items_put
-  items_settled t (Counted.Items k) h = go (leb (k * record_width) (length t))
+  items_settled t (Ok k) h = go (leb (k * record_width) (length t))
     where
       go : (b : Bool) → items_left (cond b (Outcome.gives used (map item_row is)) (Outcome.late used 9 0 (k * record_width))) t
           ≡ cond b (records_bytes (map item_row is) ++ drop (k * record_width) t) t
       go true = ap (λ (n : ℕ). records_bytes (map item_row is) ++ drop (n * record_width) t) (length-map is item_row ∙ sym (h k refl))
       go false = refl
-  items_settled t (Counted.Large a) h = refl
+  items_settled t (Err x) h = refl
 
   -- whatever was counted: a call that used the working spaces clears them
-  pub work_settled : (room : ℕ) (c : Counted) (w : List ℕ) → work_left (settled used room is c) w ≡ cleared used w
+  pub work_settled : (room : ℕ) (c : Result ℕ Refused) (w : List ℕ) → work_left (settled used room is c) w ≡ cleared used w
   unfolding settled work_left
-  work_settled room (Counted.Items k) w = go (leb (k * record_width) room)
+  work_settled room (Ok k) w = go (leb (k * record_width) room)
     where
       go : (b : Bool) → work_left (cond b (Outcome.gives used (map item_row is)) (Outcome.late used 9 0 (k * record_width))) w ≡ cleared used w
       go true = refl
       go false = refl
-  work_settled room (Counted.Large a) w = refl
+  work_settled room (Err x) w = refl
 
 -- ---- the buffer b holds the bytes of the postings ps
 
@@ -118,14 +119,14 @@ module _ (s b : List ℕ) (ps : List Row) (e : b ≡ records_bytes ps) (h : AllH
   unfolding head_row on_first
   found_rows = sym (map-map item_row (on_first fields_in) Found) ∙ ap (map item_row) found_items
 
-  number : (n : ℕ) → counted (λ r. r.start) 0 Wanted ≡ Counted.Items n → n ≡ length Wanted
+  number : (n : ℕ) → counted (λ r. r.start) 0 Wanted ≡ Ok n → n ≡ length Wanted
   number n f = counted_length (λ (r : Row). r.start) 0 n Wanted f ∙ omega arith
 
   module _ (used : ℕ) where
     pub found_answer : (room : ℕ) → answer_of (settled used room Wanted (counted (λ r. r.start) 0 Wanted)) ≡ placed (counted place_in 0 Found) room
     found_answer room =
         answer_settled used Wanted room (counted (λ (r : Row). r.start) 0 Wanted) number
-        ∙ ap (λ (c : Counted). placed c room) (sym found_count)
+        ∙ ap (λ (c : Result ℕ Refused). placed c room) (sym found_count)
 
     pub found_left : (t : List ℕ) → items_left (settled used (length t) Wanted (counted (λ r. r.start) 0 Wanted)) t
         ≡ items_put (counted place_in 0 Found) (map item_row_in Found) t

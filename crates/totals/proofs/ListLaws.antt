@@ -1,4 +1,7 @@
 -- Laws of the listing: what the items' number tells.
+use Rattle.text.specs.declared.stop.Refused.{Refused}
+use Rattle.text.specs.Refusals.{refused_with}
+use Rattle.std.specs.Prelude.{Err, Ok, Result}
 use Prim.Native.Nat.{ℕ, suc, ◌*◌, ◌≤◌, ◌<◌}
 use native.Mathlib.Omega.{arith}
 use mathlib.Core.Path.{◌≡◌, sym, ap, ◌∙◌}
@@ -14,11 +17,9 @@ use Rattle.order.specs.Records.{record_width, records_bytes}
 use Rattle.order.specs.steps.Buffers.{record_room, put_records, said_in, records_of}
 use Rattle.order.specs.Order.{by}
 use Rattle.order.specs.Groups.{those, alike, heads, Item, item_of, listed, counted}
-use Rattle.order.specs.declared.runs.Counted.{Counted}
 use Rattle.order.proofs.RecordLaws.{length_records}
 use Rattle.order.proofs.RunLaws.{place_in}
 use Rattle.totals.specs.steps.Listing.{item_row_in, placed, items_put}
-use Rattle.totals.specs.declared.totals.Answer.{Answer}
 use Rattle.totals.proofs.JoinLaws.{counted_length}
 
 -- ---- the number of the items
@@ -39,20 +40,20 @@ heads_few le (x ∷ xs) = omega (arith, those_few (λ y. not (alike le x y)) (he
 
 -- ---- the answer: c is what the count told
 
-module _ (s t u : List ℕ) (c : Counted) (e : c ≡ counted place_in 0 (listed (said_in s) (records_of t))) where
+module _ (s t u : List ℕ) (c : Result ℕ Refused) (e : c ≡ counted place_in 0 (listed (said_in s) (records_of t))) where
   abbrev All : List (Item (List ℕ))
   All = listed (said_in s) (records_of t)
 
-  module _ (a : ℕ) (f : c ≡ Counted.Large a) where
-    pub list_large : (r : Answer) → r ≡ Answer.Refusal 6 a 0 → r ≡ placed (counted place_in 0 All) (length u)
+  module _ (x : Refused) (f : c ≡ Err x) where
+    pub list_large : Err x ≡ placed (counted place_in 0 All) (length u)
     unfolding placed
-    list_large r q = q ∙ rw (← e, f)
+    list_large = rw (← e, f)
 
     pub list_large_left : u ≡ items_put (counted place_in 0 All) (map item_row_in All) u
     unfolding items_put
     list_large_left = rw (← e, f)
 
-  module _ (k : ℕ) (f : c ≡ Counted.Items k) where
+  module _ (k : ℕ) (f : c ≡ Ok k) where
     number : k ≡ length All
     number = counted_length place_in 0 k All (sym e ∙ f) ∙ omega arith
 
@@ -70,7 +71,7 @@ module _ (s t u : List ℕ) (c : Counted) (e : c ≡ counted place_in 0 (listed 
     pub list_small : Fits w64 (length t) → Fits w64 (k * record_width)
     list_small h = omega (arith, few)
 
-    pub list_full : (r : Answer) → record_room u < k → r ≡ Answer.Refusal 9 0 (k * record_width) → r ≡ placed (counted place_in 0 All) (length u)
+    pub list_full : (r : Result ℕ Refused) → record_room u < k → r ≡ Err (refused_with 9 0 (k * record_width)) → r ≡ placed (counted place_in 0 All) (length u)
     unfolding placed
     list_full r h q = q ∙ rw (← e, f, lt-leb (k * record_width) (length u) (omega arith))
 
@@ -78,7 +79,7 @@ module _ (s t u : List ℕ) (c : Counted) (e : c ≡ counted place_in 0 (listed 
     unfolding items_put
     list_full_left h = rw (← e, f, lt-leb (k * record_width) (length u) (omega arith))
 
-    pub list_items : k ≤ record_room u → Answer.Items k ≡ placed (counted place_in 0 All) (length u)
+    pub list_items : k ≤ record_room u → Ok k ≡ placed (counted place_in 0 All) (length u)
     unfolding placed
     list_items h = rw (← e, f, le-leb (k * record_width) (length u) (omega arith))
 

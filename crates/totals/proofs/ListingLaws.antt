@@ -1,11 +1,11 @@
 -- Laws of the items of a sorted buffer, one after the other.
+use Rattle.decimal.specs.Faults.{Value}
 use Prim.Native.Nat.{ℕ, ◌+◌, ◌-◌, ◌≤◌, ◌<◌}
 use native.Mathlib.Omega.{arith}
 use mathlib.Core.Path.{◌≡◌, refl, sym, ap, ◌∙◌}
 use mathlib.Core.List.{List, [], ◌∷◌, ◌++◌, map, map-append, append_assoc, append-nil}
 use lib.ListN.{length, length-append, length-map}
 use Rattle.decimal.specs.Exact.{twos_of}
-use Rattle.decimal.specs.declared.Value.{Value}
 use Rattle.row.specs.declared.table.Row.{Row}
 use Rattle.row.specs.Details.{millionths}
 use Rattle.row.specs.Row.{field_bytes, fields_in}

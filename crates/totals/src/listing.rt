@@ -36,13 +36,12 @@ pub fn put_items(s: &[u8], t: &[u8], items: &mut [u8])
     let n = t.len() / RECORD;
     let mut i = 0;
     let mut k = 0;
+    // A turn takes a whole run: no step that a range could count.
     while i < n {
         let run = runs::run_at(s, t, i);
-        let end = run.end;
-        let sum = run.sum;
-        let row = head_row(t, i, end - i, sum);
+        let row = head_row(t, i, run.end - i, run.sum);
         record::put_record(items, k, row);
-        i = end;
+        i = run.end;
         k += 1;
     }
 }

@@ -2,11 +2,35 @@
 ghost use Rattle.std.specs.Prelude.{◌≡◌, ◌≤◌, length};
 ghost use Rattle.text.specs.Permitted.{size_limit};
 ghost use Rattle.order.specs.steps.Buffers.{put_records};
-ghost use Rattle.totals.specs.steps.Months.{Accepted, AllHeld, month_postings};
+ghost use Rattle.walk.specs.Postings.{dated};
+ghost use Rattle.walk.specs.steps.Walks.{Standing};
+ghost use Rattle.totals.specs.steps.Months.{Accepted, AllHeld, Next, month_postings};
 
 use order::record;
+use row::table::Row;
 use walk::step;
-use walk::step::{Cursor, Turn};
+use walk::step::Cursor;
+
+// Before the first entry.
+const START: Cursor = Cursor {
+    at: 0,
+    inside: None,
+};
+
+// The next posting, and where the walk goes on behind it.
+fn next_posting(ledger: &[u8], from: Cursor, year: usize, month: usize) -> Option<(Cursor, Row)>
+    requires { (length ledger.now ≤ size_limit) × Standing (dated year month) ledger.now from }
+    ensures { Next (dated year month) ledger.now from result }
+{
+    let mut c = from;
+    while let Some((next, posting)) = step::advance(ledger, c, year, month) {
+        if let Some(p) = posting {
+            return Some((next, p));
+        }
+        c = next;
+    }
+    None
+}
 
 // How many they are.
 pub fn count(ledger: &[u8], year: usize, month: usize) -> usize
@@ -14,25 +38,13 @@ pub fn count(ledger: &[u8], year: usize, month: usize) -> usize
     ensures count { result ≡ length (month_postings ledger.now year month) }
     ensures few { result ≤ size_limit }
 {
-    let mut c = Cursor {
-        at: 0,
-        from: 0,
-        inside: false,
-    };
-    let mut n: usize = 0;
-    loop {
-        let t = step::advance(ledger, c, year, month);
-        match t {
-            Turn::Found(_, d) => {
-                n += 1;
-                c = d;
-            }
-            Turn::On(d) => {
-                c = d;
-            }
-            Turn::Done => return n,
-        }
+    let mut c = START;
+    let mut n = 0;
+    while let Some((next, _)) = next_posting(ledger, c, year, month) {
+        n += 1;
+        c = next;
     }
+    n
 }
 
 // One after the other, where they fit.
@@ -41,24 +53,11 @@ pub fn put(ledger: &[u8], year: usize, month: usize, records: &mut [u8])
     ensures bytes { records.new ≡ put_records (month_postings ledger.now year month) records.old }
     ensures held { AllHeld (month_postings ledger.now year month) }
 {
-    let mut c = Cursor {
-        at: 0,
-        from: 0,
-        inside: false,
-    };
-    let mut n: usize = 0;
-    loop {
-        let t = step::advance(ledger, c, year, month);
-        match t {
-            Turn::Found(p, d) => {
-                record::put_record(records, n, p);
-                n += 1;
-                c = d;
-            }
-            Turn::On(d) => {
-                c = d;
-            }
-            Turn::Done => return,
-        }
+    let mut c = START;
+    let mut n = 0;
+    while let Some((next, posting)) = next_posting(ledger, c, year, month) {
+        record::put_record(records, n, posting);
+        n += 1;
+        c = next;
     }
 }

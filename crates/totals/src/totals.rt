@@ -12,50 +12,30 @@ ghost use Rattle.totals.specs.steps.Months.{Accepted, month_postings, listed_mon
 
 use crate::{listing, month};
 use ledger::read;
-use ledger::scan::{Profile, Scan};
+use ledger::scan::Profile;
 use order::record::RECORD;
-use order::runs::Counted;
 use order::{runs, sort};
 use row::work;
-
-#[derive(Clone, Copy)]
-pub enum Answer {
-    Items(usize),
-    Refusal {
-        number: usize,
-        place: usize,
-        count: usize,
-    },
-}
-
-fn refusal(number: usize, place: usize, count: usize) -> Answer
-    ensures { result ≡ Answer.Refusal number place count }
-{
-    Answer::Refusal {
-        number,
-        place,
-        count,
-    }
-}
+use text::stop;
+use text::stop::Refused;
 
 // Sorted records: their items are judged, then counted, then written.
-fn list(s: &[u8], t: &[u8], items: &mut [u8]) -> Answer
+fn list(s: &[u8], t: &[u8], items: &mut [u8]) -> Result<usize, Refused>
     requires { Ordered (by (said_in s.now)) (records_of t.now) }
     ensures answer { result ≡ placed (counted (λ b. (fields_in b).start) 0 (listed (said_in s.now) (records_of t.now))) (length items.old) }
     ensures bytes { items.new ≡ items_put (counted (λ b. (fields_in b).start) 0 (listed (said_in s.now) (records_of t.now)))
         (map item_row_in (listed (said_in s.now) (records_of t.now))) items.old }
 {
-    let c = runs::count_runs(s, t);
-    match c {
-        Counted::Large(a) => refusal(6, a, 0),
-        Counted::Items(k) => {
-            if items.len() / RECORD < k {
-                return refusal(9, 0, k * RECORD);
-            }
-            listing::put_items(s, t, items);
-            Answer::Items(k)
-        }
+    let k = runs::count_runs(s, t)?;
+    if items.len() / RECORD < k {
+        return Err(Refused {
+            number: stop::TOO_SHORT,
+            place: 0,
+            count: k * RECORD,
+        });
     }
+    listing::put_items(s, t, items);
+    Ok(k)
 }
 
 // The month's postings, whose records fill `work`, sorted and listed.
@@ -66,7 +46,7 @@ fn list_month(
     items: &mut [u8],
     work: &mut [u8],
     spare: &mut [u8],
-) -> Answer
+) -> Result<usize, Refused>
     requires { Accepted ledger.now × (length work.old ≡ length (month_postings ledger.now year month) * record_width) × (length work.old ≤ length spare.old) }
     ensures answer { result ≡ answer_of (listed_month ledger.now year month (length items.old)) }
     ensures items { items.new ≡ items_left (listed_month ledger.now year month (length items.old)) items.old }
@@ -90,20 +70,21 @@ fn month_totals(
     items: &mut [u8],
     work: &mut [u8],
     spare: &mut [u8],
-) -> Answer
+) -> Result<usize, Refused>
     requires { Accepted ledger.now × (is_month month ≡ true) }
     ensures { Done (decided ledger.now year month (length items.old) (length work.old) (length spare.old) (plain ledger.now))
         items.old work.old spare.old result items.new work.new spare.new }
 {
     let n = month::count(ledger, year, month);
     let used = n * RECORD;
-    if work.len() < used {
-        return refusal(9, 1, used);
+    if work.len() < used || spare.len() < used {
+        return Err(Refused {
+            number: stop::TOO_SHORT,
+            place: 1,
+            count: used,
+        });
     }
-    if spare.len() < used {
-        return refusal(9, 1, used);
-    }
-    let r = list_month(
+    let listed = list_month(
         ledger,
         year,
         month,
@@ -113,10 +94,11 @@ fn month_totals(
     );
     work::clear(work, used);
     work::clear(spare, used);
-    r
+    listed
 }
 
-// The totals of a ledger for a year and month. Refusals: plain reading's, 15, 9 at place 1 for a working space, 6, 9.
+// The totals of a ledger for a year and month. Refusals: plain reading's, 15, 9 at place 1 for a working space, 6, 9 at
+// place 0 for the items.
 pub fn totals(
     ledger: &[u8],
     year: usize,
@@ -124,18 +106,13 @@ pub fn totals(
     items: &mut [u8],
     work: &mut [u8],
     spare: &mut [u8],
-) -> Answer
+) -> Result<usize, Refused>
     ensures { Done (decided ledger.now year month (length items.old) (length work.old) (length spare.old) (plain ledger.now))
         items.old work.old spare.old result items.new work.new spare.new }
 {
-    let v = read::verdict(ledger, Profile::Plain);
-    match v {
-        Scan::Stopped(number, place) => refusal(number, place, 0),
-        Scan::Whole(_) => {
-            if is_month(month) {
-                return month_totals(ledger, year, month, items, work, spare);
-            }
-            refusal(15, 0, 0)
-        }
+    read::verdict(ledger, Profile::Plain)?;
+    if is_month(month) {
+        return month_totals(ledger, year, month, items, work, spare);
     }
+    Err(stop::refused_at(stop::NO_MONTH, 0))
 }

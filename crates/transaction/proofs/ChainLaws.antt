@@ -1,4 +1,8 @@
 -- A transaction's parts one after the other, each answer from what the code knows where it gives it.
+use Rattle.text.proofs.TestLaws.{tried}
+use Rattle.text.specs.declared.stop.Stop.{Stop}
+use Rattle.text.specs.steps.Told.{Reading}
+use Rattle.std.specs.Prelude.{None, Option, Some, Err, Ok}
 use Prim.Native.Nat.{ℕ, suc, ◌≤◌}
 use native.Mathlib.Omega.{arith}
 use mathlib.Core.Path.{◌≡◌, refl, sym, ◌∙◌, ap, subst}
@@ -7,19 +11,17 @@ use lib.ListN.{length}
 use Rattle.text.specs.Answer.{To, Miss, Hard, must, more, ◌and◌}
 use Rattle.text.specs.Leaves.{token, line_end}
 use Rattle.text.specs.Lines.{line_end_at}
-use Rattle.text.specs.declared.Read.{Read}
 use Rattle.text.proofs.Joins.{required, Reach, and_assoc, and_reach, must_reach, reach_from}
 use Rattle.text.proofs.TokenEnds.{line_reach}
-use Rattle.text.specs.Refusals.{required_number}
+use Rattle.text.specs.Refusals.{missing}
 use Rattle.amount.specs.Details.{Rows}
 use Rattle.amount.specs.declared.detail.Detail.{Detail}
 use Rattle.amount.proofs.RowCounts.{Kinds, any_kinds, part_kinds, FitsFrom, Fits, fits_at, fits_wide, must_fits, and_fits, maybe_fits}
 use Rattle.row.specs.steps.Writing.{Did}
 use Rattle.row.specs.declared.writer.Out.{Out}
-use Rattle.row.specs.declared.writer.Ran.{Ran}
 use Rattle.row.proofs.OutLaws.{rows_outs}
 use Rattle.row.proofs.SureLaws.{Sure, sure_must, sure_maybe, sure_many, sure_and}
-use Rattle.row.proofs.DidLaws.{was_read, and_read, and_miss, and_hard}
+use Rattle.row.proofs.DidLaws.{was_read, and_read, and_stop}
 use Rattle.row.proofs.TokenLaws.{must_token_read, must_token_miss}
 use Rattle.posting.specs.Metadata.{metadata}
 use Rattle.posting.specs.Postings.{body}
@@ -34,7 +36,7 @@ use Rattle.transaction.proofs.TransactionFew.{opening_fits, texts_fits, marks_fi
 
 -- ---- a part a that was read to e: its end is in the text, and no more rows are there than bytes before it
 
-module _ (base : ℕ) (o : Out) (t v : List ℕ) (r : Ran) (a : Rows) (d : Did base a o t v r) (e : ℕ) (m : Out) (q : r ≡ Ran.To e m) where
+module _ (base : ℕ) (o : Out) (t v : List ℕ) (r : Reading Out) (a : Rows) (d : Did base a o t v r) (e : ℕ) (m : Out) (q : r ≡ Ok (e, m)) where
   pub part_within : (n at : ℕ) → Reach n at a → e ≤ n
   part_within n at R = let z = was_read base o t v r a e m d q in (subst (Reach n at) z.1 R).ends.1
 
@@ -44,10 +46,10 @@ module _ (base : ℕ) (o : Out) (t v : List ℕ) (r : Ran) (a : Rows) (d : Did b
       omega (arith, ap (λ (y : Out). y.rows) z.2.0, rows_outs z.0 o, (fits_at at e z.0 a F z.1).1)
 
 -- and a line end: x is its answer
-module _ (s : List ℕ) (at : ℕ) (x : Read) (p : x ≡ line_end_at s at) (f : ℕ) (q : x ≡ Read.To f) (h : at ≤ length s) where
+module _ (s : List ℕ) (at : ℕ) (x : Option ℕ) (p : x ≡ line_end_at s at) (f : ℕ) (q : x ≡ Some f) (h : at ≤ length s) where
   line_ends : (at ≤ f) × (f ≤ length s)
   unfolding line_end token
-  line_ends = (subst (λ (z : Read). Reach (length s) at (token {A = Detail} z)) (sym p ∙ q) (line_reach s at h)).ends
+  line_ends = (subst (λ (z : Option ℕ). Reach (length s) at (token {A = Detail} z)) (sym p ∙ q) (line_reach s at h)).ends
 
   pub line_within : f ≤ length s
   line_within = line_ends.1
@@ -55,7 +57,7 @@ module _ (s : List ℕ) (at : ℕ) (x : Read) (p : x ≡ line_end_at s at) (f : 
   pub line_rows : (k : ℕ) → k ≤ at → k ≤ f
   line_rows k l = omega (arith, line_ends)
 
-pub ruleset chain = (part_within, part_rows, and_read, and_miss, and_hard)
+pub ruleset chain = (part_within, part_rows, and_read, and_stop)
 
 -- ---- the parts, which do not miss but for the opening
 
@@ -71,11 +73,11 @@ module _ (s : List ℕ) (at : ℕ) where
 module _ (s : List ℕ) where
   -- what follows the marks
   unfoldable pub ended : ℕ → Rows
-  ended c = must required_number c (line_end s c) and metadata s
+  ended c = must missing c (line_end s c) and metadata s
 
   pub sure_ended : (at : ℕ) → Sure (ended at)
   unfolding ended
-  sure_ended at = sure_and (metadata s) (sure_must required_number at (line_end s at)) (sure_metadata s)
+  sure_ended at = sure_and (metadata s) (sure_must missing at (line_end s at)) (sure_metadata s)
 
   pub sure_marked : (at : ℕ) → Sure (marked_of s at)
   unfolding marked_of ended
@@ -109,16 +111,16 @@ module _ (s : List ℕ) (at : ℕ) where
   texts_of_fits h = maybe_fits at (texts s at) (texts_fits s at h)
 
 -- a required line end, and then metadata: x is the line end's answer
-module _ (base : ℕ) (s : List ℕ) (at : ℕ) (o : Out) (t : List ℕ) (x : Read) (p : x ≡ line_end_at s at) where
-  pub ended_on : (f : ℕ) (u : List ℕ) (q : Ran) → x ≡ Read.To f → Did base (metadata s f) o t u q → Did base (ended s at) o t u q
+module _ (base : ℕ) (s : List ℕ) (at : ℕ) (o : Out) (t : List ℕ) (x : Option ℕ) (p : x ≡ line_end_at s at) where
+  pub ended_on : (f : ℕ) (u : List ℕ) (q : Reading Out) → x ≡ Some f → Did base (metadata s f) o t u q → Did base (ended s at) o t u q
   unfolding ended line_end
-  ended_on f u q l k = must_token_read base o t x (line_end_at s at) p (metadata s) required_number at f u q l k
+  ended_on f u q l k = must_token_read base o t x (line_end_at s at) p (metadata s) missing at f u q l k
 
-  pub ended_open : (u : List ℕ) → x ≡ Read.Miss → Did base (ended s at) o t u (Ran.Hard required_number at)
+  pub ended_open : (u : List ℕ) → x ≡ None → Did base (ended s at) o t u (Err (Stop.Hard missing at))
   unfolding ended line_end
-  ended_open u l = must_token_miss base o t x (line_end_at s at) p (metadata s) required_number at u l
+  ended_open u l = must_token_miss base o t x (line_end_at s at) p (metadata s) missing at u l
 
-pub ruleset marked_laws = (chain, marked_is, sure_ended, marks_reach, marks_fits, line_within, line_rows, ended_on, ended_open)
+pub ruleset marked_laws = (tried, chain, marked_is, sure_ended, marks_reach, marks_fits, line_within, line_rows, ended_on, ended_open)
 
 pub ruleset texted_laws = (chain, texted_is, sure_marked, texts_of_reach, texts_of_fits)
 
@@ -134,15 +136,15 @@ and_same (Hard k p) g h f = refl
 
 module _ (s : List ℕ) where
   -- the required line end and metadata, and the body
-  ended_body : (c : ℕ) → (ended s c and body s) ≡ (must required_number c (line_end s c) and λ d. metadata s d and body s)
+  ended_body : (c : ℕ) → (ended s c and body s) ≡ (must missing c (line_end s c) and λ d. metadata s d and body s)
   unfolding ended
-  ended_body c = and_assoc (must required_number c (line_end s c)) (metadata s) (body s)
+  ended_body c = and_assoc (must missing c (line_end s c)) (metadata s) (body s)
 
-  marked_body : (b : ℕ) → (marked_of s b and body s) ≡ (marks s b and λ c. must required_number c (line_end s c) and λ d. metadata s d and body s)
+  marked_body : (b : ℕ) → (marked_of s b and body s) ≡ (marks s b and λ c. must missing c (line_end s c) and λ d. metadata s d and body s)
   marked_body b =
       ap (λ a. a and body s) (marked_is s b) ∙ and_assoc (marks s b) (ended s) (body s) ∙ and_same (marks s b) (λ c. ended s c and body s) _ ended_body
 
-  texted_body : (a : ℕ) → (texted_of s a and body s) ≡ (texts_of s a and λ b. marks s b and λ c. must required_number c (line_end s c) and λ d. metadata s d and body s)
+  texted_body : (a : ℕ) → (texted_of s a and body s) ≡ (texts_of s a and λ b. marks s b and λ c. must missing c (line_end s c) and λ d. metadata s d and body s)
   texted_body a =
       ap (λ x. x and body s) (texted_is s a) ∙ and_assoc (texts_of s a) (marked_of s) (body s) ∙ and_same (texts_of s a) (λ b. marked_of s b and body s) _ marked_body
 
@@ -162,7 +164,7 @@ module _ (s : List ℕ) where
       let N = length s in
       and_reach N a a (texts_of s a) _ (texts_of_reach s a h) (λ b p₂ q₂.
       and_reach N b a (marks s b) _ (marks_reach s b q₂) (λ c p₃ q₃.
-      and_reach N c a (must required_number c (line_end s c)) _ (must_reach N c required c _ q₃ (line_reach s c q₃)) (λ d p₄ q₄.
+      and_reach N c a (must missing c (line_end s c)) _ (must_reach N c required c _ q₃ (line_reach s c q₃)) (λ d p₄ q₄.
       reach_from N d a (metadata s d) (omega arith) (metadata_reach s d q₄))))
 
   pub head_reach : (at : ℕ) → at ≤ length s → Reach (length s) at (head_of s at)
@@ -176,7 +178,7 @@ module _ (s : List ℕ) where
       let N = length s in
       and_fits N a a (texts_of s a) _ (texts_of_reach s a h) (fits_wide _ a _ (omega arith) (texts_of_fits s a h)) (λ b p₂ q₂.
       and_fits N b b (marks s b) _ (marks_reach s b q₂) (fits_wide _ b _ (omega arith) (marks_fits s b q₂)) (λ c p₃ q₃.
-      and_fits N c c (must required_number c (line_end s c)) _ (must_reach N c required c _ q₃ (line_reach s c q₃)) (must_fits c required_number c _ (line_fits s c q₃)) (λ d p₄ q₄.
+      and_fits N c c (must missing c (line_end s c)) _ (must_reach N c required c _ q₃ (line_reach s c q₃)) (must_fits c missing c _ (line_fits s c q₃)) (λ d p₄ q₄.
       fits_wide _ d _ (omega arith) (metadata_fits s d q₄))))
 
   pub head_fits : (at : ℕ) → at ≤ length s → FitsFrom any_kinds s at (head_of s at)

@@ -8,7 +8,7 @@ use Rattle.text.specs.Answer.{To, Miss, Hard, ◌and◌, more, must}
 use Rattle.text.specs.Leaves.{line_end}
 use Rattle.text.proofs.Joins.{required, Reach, must_reach}
 use Rattle.text.proofs.TokenEnds.{line_reach}
-use Rattle.text.specs.Refusals.{required_number}
+use Rattle.text.specs.Refusals.{missing}
 use Rattle.amount.specs.declared.detail.Detail.{Detail}
 use Rattle.amount.specs.Details.{Rows}
 use Rattle.amount.proofs.RowCounts.{Kinds, head_kinds, part_kinds, meta_kinds, FitsFrom, must_fits}
@@ -54,7 +54,7 @@ module _ (s : List ℕ) where
       and_others N at (opening s at) _ (opening_reach s at h) (fits_others head_kinds (λ k o. (omega (arith, o), omega (arith, o), λ e. omega (arith, o))) at _ (opening_fits s at h)) (λ a q₁.
       and_others N a (texts_of s a) _ (texts_of_reach s a q₁) (fits_others part_kinds below a _ (texts_of_fits s a q₁)) (λ b q₂.
       and_others N b (marks s b) _ (marks_reach s b q₂) (fits_others part_kinds below b _ (marks_fits s b q₂)) (λ c q₃.
-      and_others N c (must required_number c (line_end s c)) _ (must_reach N c required c _ q₃ (line_reach s c q₃)) (fits_others part_kinds below c _ (must_fits c required_number c _ (line_fits s c q₃))) (λ d q₄.
+      and_others N c (must missing c (line_end s c)) _ (must_reach N c required c _ q₃ (line_reach s c q₃)) (fits_others part_kinds below c _ (must_fits c missing c _ (line_fits s c q₃))) (λ d q₄.
       fits_others meta_kinds above d _ (metadata_fits s d q₄)))))
 
 -- a transaction at g that was read to n: its head, to e, and its body

@@ -1,4 +1,5 @@
 -- What opens a transaction: the row of its flag comes first, or none where `txn` opens it; no other row is a flag's.
+use Rattle.std.specs.Prelude.{None, Some}
 use Prim.Native.Nat.{ℕ, ◌+◌, ◌≤◌}
 use native.Mathlib.Omega.{arith}
 use mathlib.Core.Path.{◌≡◌, refl, sym, ◌∙◌, ap}
@@ -11,7 +12,6 @@ use Rattle.text.specs.Bytes.{bytes, is_small}
 use Rattle.text.specs.Words.{starts_with, word_at}
 use Rattle.text.specs.Answer.{To, Miss, Hard, ◌and◌, ◌else◌, more}
 use Rattle.text.specs.Leaves.{token, word}
-use Rattle.text.specs.declared.Read.{Read}
 use Rattle.text.proofs.Steps.{head_drop}
 use Rattle.text.proofs.TestLaws.{absurd_bool, and_left}
 use Rattle.text.proofs.Joins.{Reach}
@@ -54,7 +54,7 @@ unfolding opening flag ◌and◌ ◌else◌ more word token word_at bytes
 opening_was s g = go (is_flag (get_or s g 0)) (starts_with (bytes "txn") (drop g s)) refl refl
   where
     go : (t w : Bool) → is_flag (get_or s g 0) ≡ t → starts_with (bytes "txn") (drop g s) ≡ w
-        → Opening s g ((cond t (To (g + 1) []) Miss and λ e. To e (span flag_kind g e ∷ [])) else token (cond w (Read.To (g + length (bytes "txn"))) Read.Miss))
+        → Opening s g ((cond t (To (g + 1) []) Miss and λ e. To e (span flag_kind g e ∷ [])) else token (cond w (Some (g + length (bytes "txn"))) None))
     go true w p q = (rw p, omega arith, λ f. absurd_bool (sym f ∙ p))
     go false true p q = (rw p, omega arith, λ _. ap is_small (sym (head_drop s g)) ∙ txn_head (drop g s) q)
     go false false p q = tt

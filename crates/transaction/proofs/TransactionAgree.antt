@@ -1,6 +1,7 @@
 -- Locality of rule 11: what follows a text that ends in a line feed does not count, if it starts with a boundary's
 -- byte, but for strings, which may cross the cut. M is the text's length: below it a place stands inside a line; a
 -- transaction's opening may be the last line feed.
+use Rattle.text.specs.declared.stop.Cause.{Cause}
 use Prim.Native.Nat.{ℕ, suc, ◌+◌, ◌-◌, ◌≤◌, ◌<◌}
 use native.Mathlib.Omega.{arith}
 use mathlib.Core.Path.{◌≡◌, refl}
@@ -22,7 +23,7 @@ use Rattle.text.specs.Boundaries.{is_start}
 use Rattle.text.proofs.StringSame.{string_ends}
 use Rattle.text.proofs.TokenEnds.{gap_reach, line_reach, string_reach}
 use Rattle.text.proofs.TextCut.{xs, ys, s, cut, seam, past_end, at_seam, gap_same}
-use Rattle.text.specs.Refusals.{required_number}
+use Rattle.text.specs.Refusals.{missing}
 use Rattle.amount.specs.declared.detail.Detail.{Detail}
 use Rattle.amount.specs.Details.{Rows, span}
 use Rattle.row.proofs.SureLaws.{Sure, sure_must, sure_many, sure_and}
@@ -54,7 +55,7 @@ no_mark s at e f g = rw (e, f, g)
 data Past (n : ℕ) : Rows → Type 0 where
   past : (j : ℕ) (xs : List Detail) → n < j → torn n xs ≡ true → Past n (To j xs)
   none : Past n Miss
-  hard : (k p : ℕ) → Past n (Hard k p)
+  hard : (k : Cause) (p : ℕ) → Past n (Hard k p)
 
 more_past : {n : ℕ} (xs : List Detail) {a : Rows} → Past n a → Past n (more xs a)
 unfolding more
@@ -82,7 +83,7 @@ second s a e = (gap s e and λ b. string s b and λ f. To f (span 21 (a + 1) (e 
 
 -- and after the texts
 abbrev rest : List ℕ → ℕ → Rows
-rest s at = marks s at and λ c. must required_number c (line_end s c) and λ d. metadata s d and λ e. body s e
+rest s at = marks s at and λ c. must missing c (line_end s c) and λ d. metadata s d and λ e. body s e
 
 lines_reach : (s : List ℕ) (at : ℕ) → at ≤ length s → Reach (length s) at (metadata s at and λ e. body s e)
 lines_reach s at h =
@@ -92,11 +93,11 @@ rest_reach : (s : List ℕ) (at : ℕ) → at ≤ length s → Reach (length s) 
 rest_reach s at h =
     let n = length s in
     and_reach n at at (marks s at) _ (marks_reach s at h) (λ c p₁ q₁.
-    and_reach n c at (must required_number c (line_end s c)) _ (must_reach n c required c _ q₁ (line_reach s c q₁)) (λ d p₂ q₂. reach_from n d at _ (omega arith) (lines_reach s d q₂)))
+    and_reach n c at (must missing c (line_end s c)) _ (must_reach n c required c _ q₁ (line_reach s c q₁)) (λ d p₂ q₂. reach_from n d at _ (omega arith) (lines_reach s d q₂)))
 
 rest_sure : (s : List ℕ) (at : ℕ) → Sure (rest s at)
 unfolding marks
-rest_sure s at = sure_and _ (sure_many _ _ at) (λ c. sure_and _ (sure_must required_number c _) (λ d. sure_and _ (sure_metadata s d) (sure_body s)))
+rest_sure s at = sure_and _ (sure_many _ _ at) (λ c. sure_and _ (sure_must missing c _) (λ d. sure_and _ (sure_metadata s d) (sure_body s)))
 
 module _ (front t : List ℕ) (b : ℕ) (B : is_start b ≡ true) where
   abbrev X : List ℕ
@@ -188,7 +189,7 @@ module _ (front t : List ℕ) (b : ℕ) (B : is_start b ≡ true) where
   rest_agree at h =
       and_agree (marks_same at h) (λ c h₁.
       let l : c ≤ N = omega (arith, longer front t b B) in
-      and_loose N (line_agree front t b B required_number c h₁) (must_reach N c required c _ l (line_reach S c l)) (λ d _ l. lines_agree d l)
+      and_loose N (line_agree front t b B missing c h₁) (must_reach N c required c _ l (line_reach S c l)) (λ d _ l. lines_agree d l)
       (λ j p q. lines_reach S j q) (λ j. sure_and _ (sure_metadata S j) (sure_body S)))
 
   pub transaction_agree : (at : ℕ) → at < M → Agrees M (suc M) false (transaction S at) (transaction X at)

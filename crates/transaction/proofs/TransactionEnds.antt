@@ -9,7 +9,7 @@ use Rattle.text.specs.Answer.{must, maybe}
 use Rattle.text.specs.Leaves.{gap, line_end, string, tag, link}
 use Rattle.text.proofs.Joins.{required, Reach, to_reach, reach_from, must_reach, else_reach, and_reach}
 use Rattle.text.proofs.TokenEnds.{run_reach, gap_reach, line_reach, string_reach, tag_reach, link_reach, word_reach}
-use Rattle.text.specs.Refusals.{required_number}
+use Rattle.text.specs.Refusals.{missing}
 use Rattle.posting.specs.Metadata.{metadata}
 use Rattle.posting.specs.Postings.{flag, body}
 use Rattle.posting.proofs.PostingEnds.{optional_reach, repeated_reach, metadata_reach, flag_reach, body_reach}
@@ -55,6 +55,6 @@ module _ (s : List ℕ) where
       and_reach N at at (opening s at) _ (opening_reach at h) (λ a p₁ q₁.
       and_reach N a at (maybe a (texts s a)) _ (optional_reach N a _ q₁ (texts_reach a q₁)) (λ b p₂ q₂.
       and_reach N b at (marks s b) _ (marks_reach b q₂) (λ c p₃ q₃.
-      and_reach N c at (must required_number c (line_end s c)) _ (must_reach N c required c _ q₃ (line_reach s c q₃)) (λ d p₄ q₄.
+      and_reach N c at (must missing c (line_end s c)) _ (must_reach N c required c _ q₃ (line_reach s c q₃)) (λ d p₄ q₄.
       and_reach N d at (metadata s d) _ (metadata_reach s d q₄) (λ e p₅ q₅.
       reach_from N e at (body s e) (omega arith) (body_reach s e q₅))))))

@@ -7,7 +7,7 @@ use Rattle.text.specs.Bytes.{bytes}
 use Rattle.text.specs.Run.{blanks}
 use Rattle.text.specs.Answer.{To, ◌and◌, ◌else◌, must, maybe, many}
 use Rattle.text.specs.Leaves.{gap, string, word, tag, link, line_end}
-use Rattle.text.specs.Refusals.{required_number}
+use Rattle.text.specs.Refusals.{missing}
 use Rattle.amount.specs.Kinds.{flag_kind, payee_kind, narration_kind, tag_kind, link_kind}
 use Rattle.amount.specs.Details.{Rows, span}
 use Rattle.posting.specs.Metadata.{metadata}
@@ -38,4 +38,4 @@ marks s at = many (mark s) (suc (length s)) at
 
 unfoldable pub transaction : List ℕ → ℕ → Rows
 transaction s at =
-    opening s at and λ a. maybe a (texts s a) and λ b. marks s b and λ c. must required_number c (line_end s c) and λ d. metadata s d and λ e. body s e
+    opening s at and λ a. maybe a (texts s a) and λ b. marks s b and λ c. must missing c (line_end s c) and λ d. metadata s d and λ e. body s e

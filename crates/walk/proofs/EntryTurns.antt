@@ -1,4 +1,9 @@
 -- A walk's turns at an entry: what is still to come after each.
+use Rattle.entry.specs.declared.entry.Entry.{Entry}
+use Rattle.text.specs.declared.stop.Refused.{Refused}
+use Rattle.text.specs.declared.stop.Stop.{Stop}
+use Rattle.text.specs.steps.Told.{Reading}
+use Rattle.std.specs.Prelude.{None, Option, Some, Err, Ok, Result}
 use Prim.Native.Nat.{ℕ, ◌+◌, ◌-◌, ◌≤◌, ◌<◌}
 use native.Mathlib.Nat.{zero-add}
 use native.Mathlib.Omega.{arith}
@@ -15,7 +20,6 @@ use Rattle.text.specs.Answer.{Ans, To}
 use Rattle.text.specs.Run.{blanks}
 use Rattle.text.specs.Dates.{date_at}
 use Rattle.text.specs.Leaves.{dated, date}
-use Rattle.text.specs.declared.date.Dated.{Dated}
 use Rattle.text.specs.Bytes.{is_blank}
 use Rattle.text.proofs.Joins.{Reach}
 use Rattle.text.proofs.TokenEnds.{run_reach, date_reach}
@@ -23,7 +27,6 @@ use Rattle.text.specs.Permitted.{size_limit}
 use Rattle.amount.specs.declared.detail.Detail.{Detail}
 use Rattle.row.specs.declared.table.Row.{Row}
 use Rattle.row.specs.declared.writer.Out.{Out}
-use Rattle.row.specs.declared.writer.Ran.{Ran}
 use Rattle.row.specs.Row.{row_of, feeds}
 use Rattle.row.specs.steps.Writing.{laid, Did}
 use Rattle.row.proofs.PourLaws.{le_or_lt}
@@ -34,7 +37,6 @@ use Rattle.transaction.proofs.ChainLaws.{head_reach}
 use Rattle.transaction.proofs.HeadRows.{Parted, transaction_parted}
 use Rattle.entry.specs.Forms.{Form, form_of}
 use Rattle.entry.specs.Entry.{Reads, got, refuse, rows_of, entry_of}
-use Rattle.entry.specs.declared.entry.Entry.{Entry}
 use Rattle.entry.specs.steps.Settled.{own_row, kind_of, entry_answer, form_rows}
 use Rattle.entry.proofs.EntryForms.{entry_form, entry_sound}
 use Rattle.entry.proofs.EntryTold.{Transacted, form_transacted, form_placed, form_kind_low}
@@ -43,7 +45,6 @@ use Rattle.ledger.specs.steps.Scan.{with_line}
 use Rattle.ledger.proofs.PlainLaws.{read_nil, after_accepted}
 use Rattle.text.proofs.Steps.{rest_of}
 use Rattle.ledger.proofs.ScanLaws.{rows_laid, read_on, read_stop}
-use Rattle.walk.specs.declared.step.Turn.{Turn}
 use Rattle.walk.specs.Postings.{postings_from}
 use Rattle.walk.specs.steps.Walks.{date_of, head_end, Rest, Turned, outer, inner}
 use Rattle.walk.proofs.PostLaws.{own_row_lem, laid_others, laid_out, Starts}
@@ -51,29 +52,26 @@ use Rattle.walk.proofs.PostLaws.{own_row_lem, laid_others, laid_out, Starts}
 -- ---- where a head ends
 
 -- h is the code's answer at the place g of s
-module _ (s : List ℕ) (g : ℕ) (eg : g ≡ blanks s 10) (o : Out) (t u : List ℕ) (h : Ran) (d : Did 0 (head_of s g) o t u h) where
+module _ (s : List ℕ) (g : ℕ) (eg : g ≡ blanks s 10) (o : Out) (t u : List ℕ) (h : Reading Out) (d : Did 0 (head_of s g) o t u h) where
   head_is : (e : ℕ) → e ≡ head_end (head_of s g) → e ≡ head_end (head_of s (blanks s 10))
   head_is e q = q ∙ ap (λ (i : ℕ). head_end (head_of s i)) eg
 
-  pub head_to : (e : ℕ) (m : Out) → h ≡ Ran.To e m → e ≡ head_end (head_of s (blanks s 10))
+  pub head_to : (e : ℕ) (m : Out) → h ≡ Ok (e, m) → e ≡ head_end (head_of s (blanks s 10))
   unfolding head_end
   head_to e m q = head_is e (rw (was_read 0 o t u h (head_of s g) e m d q).1)
 
-  pub head_miss : h ≡ Ran.Miss → ◌≡◌ {A = ℕ} 0 (head_end (head_of s (blanks s 10)))
+  pub head_none : (stop : Stop) → h ≡ Err stop → ◌≡◌ {A = ℕ} 0 (head_end (head_of s (blanks s 10)))
   unfolding head_end
-  head_miss q = head_is 0 (rw (was_miss 0 o t u h (head_of s g) d q).0)
+  head_none Stop.Miss q = head_is 0 (rw (was_miss 0 o t u h (head_of s g) d q).0)
+  head_none (Stop.Hard k p) q = head_is 0 (rw (was_hard 0 o t u h (head_of s g) k p d q))
 
-  pub head_hard : (k p : ℕ) → h ≡ Ran.Hard k p → ◌≡◌ {A = ℕ} 0 (head_end (head_of s (blanks s 10)))
-  unfolding head_end
-  head_hard k p q = head_is 0 (rw (was_hard 0 o t u h (head_of s g) k p d q))
+pub ruleset head_end_laws = (head_to, head_none)
 
-pub ruleset head_end_laws = (head_to, head_miss, head_hard)
-
-pub date_on : (x d : Dated) (e y z : ℕ) → x ≡ d → x ≡ Dated.On e y → z ≡ y → z ≡ date_of d
+pub date_on : (x d : Option (ℕ × ℕ)) (e y : ℕ) → x ≡ d → x ≡ Some (e, y) → y ≡ date_of d
 unfolding date_of
-date_on x d e y z p q h = rw (h, ← p, q)
+date_on x d e y p q = rw (← p, q)
 
-pub date_none : (x d : Dated) → x ≡ d → x ≡ Dated.Miss → ◌≡◌ {A = ℕ} 0 (date_of d)
+pub date_none : (x d : Option (ℕ × ℕ)) → x ≡ d → x ≡ None → ◌≡◌ {A = ℕ} 0 (date_of d)
 unfolding date_of
 date_none x d p q = rw (← p, q)
 
@@ -143,15 +141,17 @@ rest_starts s at ys R =
 
 -- ---- what the code has read at an entry: x is its answer
 
-was_refused : (k p n : ℕ) (rs : List Row) (x : Reads) → x ≡ got n rs → Entry.Refused k p ≡ entry_answer x → ⊥
+was_refused : (e : Refused) (n : ℕ) (rs : List Row) (x : Reads) → x ≡ got n rs → Err e ≡ entry_answer x → ⊥
 unfolding entry_answer
-was_refused k p n rs (got m xs) q e = let z : ◌≡◌ {A = ℕ} 0 1 = cc in omega arith
-was_refused k p n rs (refuse i j) q e = let z : ◌≡◌ {A = ℕ} 0 1 = cc in omega arith
+was_refused e n rs (got m xs) q h = let z : ◌≡◌ {A = ℕ} 0 1 = cc in omega arith
+was_refused e n rs (refuse i j) q h = let z : ◌≡◌ {A = ℕ} 0 1 = cc in omega arith
 
-was_entry : (k n q : ℕ) (x : Reads) → Entry.Read k n q ≡ entry_answer x → (rs : List Row) × (x ≡ got n rs) × (k ≡ kind_of rs)
+was_entry : (y : Entry) (x : Reads) → Ok y ≡ entry_answer x → (rs : List Row) × (x ≡ got y.size rs) × (y.kind ≡ kind_of rs)
 unfolding entry_answer
-was_entry k n q (got m rs) e = let z : m ≡ n = cc in (rs, ap (λ (i : ℕ). got i rs) z, cc)
-was_entry k n q (refuse i p) e = absurd (let z : ◌≡◌ {A = ℕ} 0 1 = cc in omega arith)
+was_entry y (got m rs) e =
+    let z : y ≡ record { kind = kind_of rs; size = m; rows = length rs } = cc in
+    (rs, ap (λ (i : Entry). got i.size rs) (sym z), ap (λ (i : Entry). i.kind) z)
+was_entry y (refuse i p) e = absurd (let z : ◌≡◌ {A = ℕ} 0 1 = cc in omega arith)
 
 kind_of_rows : (s : List ℕ) (n : ℕ) (f : Form) → kind_of (rows_of s n f) ≡ f.kind
 unfolding kind_of rows_of row_of
@@ -164,35 +164,41 @@ date_read : (s : List ℕ) (d : ℕ) → date s 0 ≡ To 10 d → date_of (date_
 unfolding date dated date_of
 date_read s d e = go (date_at s 0) e
   where
-    go : (x : Dated) → dated x ≡ To 10 d → date_of x ≡ d
-    go (Dated.On j y) q = cc
-    go Dated.Miss q = absurd (let z : ◌≡◌ {A = ℕ} 0 1 = cc in omega arith)
+    go : (x : Option (ℕ × ℕ)) → dated x ≡ To 10 d → date_of x ≡ d
+    go (Some (j, y)) q = cc
+    go None q = absurd (let z : ◌≡◌ {A = ℕ} 0 1 = cc in omega arith)
 
 -- a gap goes on behind its date
 behind_date : (s : List ℕ) (d : ℕ) → date s 0 ≡ To 10 d → 10 ≤ blanks s 10
 behind_date s d e = (run_reach is_blank s 10 (subst (Reach (length s) 10) e (date_reach s 0 (omega arith))).ends.1).0
 
 module _ (s : List ℕ) (at : ℕ) where
-  pub entry_done : (wanted : ℕ → Bool) (from : ℕ) → length s ≤ at → Turned wanted s (outer at from) Turn.Done
+  pub entry_done : (wanted : ℕ → Bool) → length s ≤ at → Turned wanted s (outer at) None
   unfolding postings_from
-  entry_done wanted from h = record { tells = λ ps S. S.these ∙ ap (postings_from wanted false) (rest_done s at S.rows S.comes h) }
+  entry_done wanted h = record { tells = λ ps S. S.these ∙ ap (postings_from wanted false) (rest_done s at S.rows S.comes h) }
 
-  module _ (l : at < length s) (x : Entry) (w : x ≡ entry_answer (entry_of (take (length s - at) (drop at s)))) where
+  module _ (l : at < length s) (x : Result Entry Refused) (w : x ≡ entry_answer (entry_of (take (length s - at) (drop at s)))) where
     answered : x ≡ entry_answer (entry_of (drop at s))
     answered = w ∙ ap (λ (u : List ℕ). entry_answer (entry_of u)) (rest_of s at)
 
-    pub entry_refused : (wanted : ℕ → Bool) (from k p : ℕ) → x ≡ Entry.Refused k p → Turned wanted s (outer at from) Turn.Done
-    entry_refused wanted from k p i =
+    pub entry_refused : (wanted : ℕ → Bool) (e : Refused) → x ≡ Err e → Turned wanted s (outer at) None
+    entry_refused wanted e i =
         record {
           tells =
               λ ps S.
               let o = rest_opens s at S.rows S.comes l in
-              absurd (was_refused k p o.size o.entry (entry_of (drop at s)) o.gets (sym i ∙ answered));
+              absurd (was_refused e o.size o.entry (entry_of (drop at s)) o.gets (sym i ∙ answered));
         }
 
-    module _ (kind n q : ℕ) (i : x ≡ Entry.Read kind n q) where
+    module _ (y : Entry) (i : x ≡ Ok y) where
+      abbrev kind : ℕ
+      kind = y.kind
+
+      abbrev n : ℕ
+      n = y.size
+
       abbrev en : (rs : List Row) × (entry_of (drop at s) ≡ got n rs) × (kind ≡ kind_of rs)
-      en = was_entry kind n q (entry_of (drop at s)) (sym i ∙ answered)
+      en = was_entry y (entry_of (drop at s)) (sym i ∙ answered)
 
       abbrev fm : (f : Form) × (form_of (drop at s) ≡ To n f) × (en.0 ≡ rows_of (drop at s) n f)
       fm = entry_form (drop at s) n en.0 en.1
@@ -207,8 +213,8 @@ module _ (s : List ℕ) (at : ℕ) where
       next_fits m = record { fits = omega (arith, next_ends) }
 
       -- behind an entry that is not wanted
-      past : (wanted : ℕ → Bool) (from : ℕ) (b : Bool) → (eqb fm.0.kind 6 && wanted fm.0.date) ≡ b → b ≡ false → Turned wanted s (outer at from) (Turn.On (outer (at + n) 0))
-      past wanted from b e z =
+      past : (wanted : ℕ → Bool) (b : Bool) → (eqb fm.0.kind 6 && wanted fm.0.date) ≡ b → b ≡ false → Turned wanted s (outer at) (Some (outer (at + n), None))
+      past wanted b e z =
           record {
             tells =
                 λ ps S.
@@ -231,8 +237,8 @@ module _ (s : List ℕ) (at : ℕ) where
                 );
           }
 
-      pub entry_other : (wanted : ℕ → Bool) (from : ℕ) → (kind ≡ 6 → ⊥) → Turned wanted s (outer at from) (Turn.On (outer (at + n) 0))
-      entry_other wanted from h = past wanted from false (ap (λ (b : Bool). b && wanted fm.0.date) (ne_eqb fm.0.kind 6 (λ z. h (form_kind ∙ z)))) refl
+      pub entry_other : (wanted : ℕ → Bool) → (kind ≡ 6 → ⊥) → Turned wanted s (outer at) (Some (outer (at + n), None))
+      entry_other wanted h = past wanted false (ap (λ (b : Bool). b && wanted fm.0.date) (ne_eqb fm.0.kind 6 (λ z. h (form_kind ∙ z)))) refl
 
       module _ (six : kind ≡ 6) where
         tx : Transacted (drop at s) n fm.0
@@ -258,7 +264,7 @@ module _ (s : List ℕ) (at : ℕ) where
           pub entry_fits : length s ≤ size_limit → Fits w64 (at + e)
           entry_fits m = record { fits = omega (arith, body_ends) }
 
-        module _ (wanted : ℕ → Bool) (from : ℕ) (d : ℕ) (ed : d ≡ date_of (date_at (take (length s - at) (drop at s)) 0)) (b : Bool) (eb : b ≡ wanted d) where
+        module _ (wanted : ℕ → Bool) (d : ℕ) (ed : d ≡ date_of (date_at (take (length s - at) (drop at s)) 0)) (b : Bool) (eb : b ≡ wanted d) where
           date_is : fm.0.date ≡ d
           date_is = sym (ed ∙ ap (λ (u : List ℕ). date_of (date_at u 0)) (rest_of s at) ∙ date_read (drop at s) fm.0.date tx.dated)
 
@@ -266,11 +272,11 @@ module _ (s : List ℕ) (at : ℕ) where
           test_is =
               ap (λ (c : Bool). c && wanted fm.0.date) (eq-eqb fm.0.kind 6 (sym form_kind ∙ six)) ∙ ap wanted date_is ∙ sym eb
 
-          pub entry_unwanted : b ≡ false → Turned wanted s (outer at from) (Turn.On (outer (at + n) 0))
-          entry_unwanted h = past wanted from b test_is h
+          pub entry_unwanted : b ≡ false → Turned wanted s (outer at) (Some (outer (at + n), None))
+          entry_unwanted h = past wanted b test_is h
 
           pub entry_body : b ≡ true → (e : ℕ) → e ≡ head_end (head_of (take (length s - at) (drop at s)) (blanks (take (length s - at) (drop at s)) 10))
-              → Turned wanted s (outer at from) (Turn.On (inner (at + e) at))
+              → Turned wanted s (outer at) (Some (inner (at + e) at, None))
           entry_body h e ee =
               record {
                 tells =

@@ -1,4 +1,8 @@
 -- A walk's turns in the body of a transaction, whichever turn it is, and its start.
+use Rattle.text.specs.declared.stop.Stop.{Stop}
+use Rattle.std.specs.Prelude.{Err, Ok, None, Option, Some}
+use Rattle.text.specs.steps.Told.{Reading}
+use Rattle.text.specs.declared.stop.Cause.{Cause}
 use Prim.Native.Nat.{ℕ, ◌+◌, ◌*◌, ◌-◌, ◌≤◌, ◌<◌}
 use native.Mathlib.Omega.{arith}
 use mathlib.Core.Path.{◌≡◌, refl, sym, ◌∙◌, ap, subst}
@@ -13,7 +17,6 @@ use Rattle.amount.specs.declared.detail.Detail.{Detail}
 use Rattle.amount.specs.Details.{Rows}
 use Rattle.row.specs.declared.table.Row.{Row}
 use Rattle.row.specs.declared.writer.Out.{Out}
-use Rattle.row.specs.declared.writer.Ran.{Ran}
 use Rattle.row.specs.steps.Writing.{laid, Did, Poured, outs}
 use Rattle.row.specs.Row.{width}
 use Rattle.row.specs.steps.Pouring.{pour_at}
@@ -27,9 +30,8 @@ use Rattle.ledger.specs.steps.Scan.{with_line, scanned}
 use Rattle.ledger.proofs.ReadLaws.{plain_reads}
 use Rattle.text.proofs.Steps.{rest_of}
 use Rattle.walk.specs.declared.step.Cursor.{Cursor}
-use Rattle.walk.specs.declared.step.Turn.{Turn}
 use Rattle.walk.specs.Postings.{postings, postings_from}
-use Rattle.walk.specs.steps.Walks.{posted_in, Rest, Within, Stands, Standing, Turned, outer, inner}
+use Rattle.walk.specs.steps.Walks.{posted_in, Rest, Within, Stands, Standing, Turn, Turned, outer, inner}
 use Rattle.walk.proofs.PostLaws.{lines_apart, fresh, laid_posting}
 use Rattle.walk.proofs.SeenLaws.{Ahead, front_ahead, seen}
 use Rattle.walk.proofs.EntryTurns.{rest_starts}
@@ -66,7 +68,7 @@ module _ (f : ℕ → Rows) (i : ℕ) where
       go Miss w z = w
       go (Hard k p) w z = absurd (let y : ◌≡◌ {A = ℕ} 0 1 = cc in omega arith)
 
-  hard_step : (k p : ℕ) → many f 1 i ≡ Hard k p → f i ≡ Hard k p
+  hard_step : (k : Cause) (p : ℕ) → many f 1 i ≡ Hard k p → f i ≡ Hard k p
   unfolding maybe ◌and◌ more
   hard_step k p q = go (f i) refl (sym one_is ∙ q)
     where
@@ -141,7 +143,7 @@ module _ (wanted : ℕ → Bool) (s : List ℕ) (at from : ℕ) where
 
   found_of : (e : ℕ) (xs : List Detail) → body_step u i ≡ To e xs → (length xs ≡ 0 → ⊥) → (t v : List ℕ) (zs : List Row) → length t ≡ 2 * width
       → v ≡ pour_at 0 (map (laid from) xs ++ zs) t → length s ≤ size_limit → (p : Row) → p ≡ posted_in v (length xs)
-      → Turned wanted s (inner at from) (Turn.Found p (inner (from + e) from))
+      → Turned wanted s (inner at from) (Some (inner (from + e) from, Some p))
   found_of e [] q n t v zs lt w l p pe = absurd (n refl)
   found_of e (x ∷ us) q n t v zs lt w l p pe =
       record {
@@ -162,7 +164,7 @@ module _ (wanted : ℕ → Bool) (s : List ℕ) (at from : ℕ) where
       }
 
   -- what the code did, and its answer x
-  module _ (o : Out) (t v : List ℕ) (x : Ran) (D : Did from (many (body_step (take (length s - from) (drop from s))) 1 (at - from)) o t v x) (zero : o.rows ≡ 0) where
+  module _ (o : Out) (t v : List ℕ) (x : Reading Out) (D : Did from (many (body_step (take (length s - from) (drop from s))) 1 (at - from)) o t v x) (zero : o.rows ≡ 0) where
     did : Did from (many (body_step u) 1 i) o t v x
     did = subst (λ (w : List ℕ). Did from (many (body_step w) 1 i) o t v x) (rest_of s from) D
 
@@ -170,15 +172,15 @@ module _ (wanted : ℕ → Bool) (s : List ℕ) (at from : ℕ) where
     counted m xs e = omega (arith, ap (λ (y : Out). y.rows) e, rows_outs xs o, zero)
 
     -- what was read, where it ends elsewhere
-    step_read : (e : ℕ) (m : Out) → x ≡ Ran.To e m → (e ≡ i → ⊥) → (xs : List Detail) × (body_step u i ≡ To e xs) × ((m ≡ outs o xs) × Poured o.rows (map (laid from) xs) t v)
+    step_read : (e : ℕ) (m : Out) → x ≡ Ok (e, m) → (e ≡ i → ⊥) → (xs : List Detail) × (body_step u i ≡ To e xs) × ((m ≡ outs o xs) × Poured o.rows (map (laid from) xs) t v)
     step_read e m q n = let z = was_read from o t v x (many (body_step u) 1 i) e m did q in (z.0, one_step (body_step u) i e z.0 z.1 n, z.2)
 
-    pub line_fits : (e : ℕ) (m : Out) → x ≡ Ran.To e m → (e ≡ i → ⊥) → Standing wanted s (inner at from) → length s ≤ size_limit → Fits w64 (from + e)
+    pub line_fits : (e : ℕ) (m : Out) → x ≡ Ok (e, m) → (e ≡ i → ⊥) → Standing wanted s (inner at from) → length s ≤ size_limit → Fits w64 (from + e)
     line_fits e m q n S l =
         let z = step_read e m q n in
         record { fits = omega (arith, ends e z.0 z.1 S.these S.stands) }
 
-    pub line_on : (e : ℕ) (m : Out) → x ≡ Ran.To e m → (e ≡ i → ⊥) → m.rows ≡ 0 → Turned wanted s (inner at from) (Turn.On (inner (from + e) from))
+    pub line_on : (e : ℕ) (m : Out) → x ≡ Ok (e, m) → (e ≡ i → ⊥) → m.rows ≡ 0 → Turned wanted s (inner at from) (Some (inner (from + e) from, None))
     line_on e m q b k =
         let z = step_read e m q b in
         let n : z.0 ≡ [] = nil_of z.0 (omega (arith, counted m z.0 z.2.0)) in
@@ -190,15 +192,15 @@ module _ (wanted : ℕ → Bool) (s : List ℕ) (at from : ℕ) where
               (subst (Stands wanted s (inner (from + e) from)) (sym w) (on e z.0 z.1 ps S), omega (arith, b), omega (arith, b));
         }
 
-    pub line_found : (e : ℕ) (m : Out) → x ≡ Ran.To e m → (e ≡ i → ⊥) → (m.rows ≡ 0 → ⊥) → length t ≡ 2 * width → length s ≤ size_limit → (p : Row) → p ≡ posted_in v m.rows
-        → Turned wanted s (inner at from) (Turn.Found p (inner (from + e) from))
+    pub line_found : (e : ℕ) (m : Out) → x ≡ Ok (e, m) → (e ≡ i → ⊥) → (m.rows ≡ 0 → ⊥) → length t ≡ 2 * width → length s ≤ size_limit → (p : Row) → p ≡ posted_in v m.rows
+        → Turned wanted s (inner at from) (Some (inner (from + e) from, Some p))
     line_found e m q b k lt l p pe =
         let z = step_read e m q b in
         let c = counted m z.0 z.2.0 in
         found_of e z.0 z.1 (λ n. k (omega (arith, c))) t v z.2.1.0 lt
         (z.2.1.1 ∙ ap (λ (y : ℕ). pour_at y (map (laid from) z.0 ++ z.2.1.0) t) zero) l p (pe ∙ ap (posted_in v) c)
 
-    pub line_end_lem : (e : ℕ) (m : Out) → x ≡ Ran.To e m → e ≡ i → Turned wanted s (inner at from) (Turn.On (outer at from))
+    pub line_end_lem : (e : ℕ) (m : Out) → x ≡ Ok (e, m) → e ≡ i → Turned wanted s (inner at from) (Some (outer at, None))
     line_end_lem e m q k =
         record {
           tells =
@@ -224,17 +226,15 @@ module _ (wanted : ℕ → Bool) (s : List ℕ) (at from : ℕ) where
               );
         }
 
-    pub line_hard : (k p : ℕ) → x ≡ Ran.Hard k p → Turned wanted s (inner at from) Turn.Done
-    line_hard k p q =
+    pub line_none : (stop : Stop) → x ≡ Err stop → Turned wanted s (inner at from) None
+    line_none Stop.Miss q = absurd (never_miss (body_step u) i (was_miss from o t v x (many (body_step u) 1 i) did q).0)
+    line_none (Stop.Hard k p) q =
         record {
           tells =
               λ ps S.
               let W = S.comes in
               absurd (body_hard u i W.end W.details W.reads k p (hard_step (body_step u) i k p (was_hard from o t v x (many (body_step u) 1 i) k p did q)));
         }
-
-    pub line_none : x ≡ Ran.Miss → Turned wanted s (inner at from) Turn.Done
-    line_none q = absurd (never_miss (body_step u) i (was_miss from o t v x (many (body_step u) 1 i) did q).0)
 
   -- what the step and what it is lent need
   module _ (l : length s ≤ size_limit) (S : Standing wanted s (inner at from)) where
@@ -248,28 +248,28 @@ module _ (wanted : ℕ → Bool) (s : List ℕ) (at from : ℕ) where
         → (from ≤ size_limit) × (length (take (length s - from) (drop from s)) ≤ size_limit) × (at - from ≤ length (take (length s - from) (drop from s))) × (n ≤ at - from)
     line_room n e = rw (rest_of s from) (omega (arith, length-drop from s, S.stands.comes.past, S.stands.inside, e))
 
-pub ruleset line_laws = (line_fits, line_on, line_found, line_end_lem, line_hard, line_none, line_past, line_inside, line_room)
+pub ruleset line_laws = (line_fits, line_on, line_found, line_end_lem, line_none, line_past, line_inside, line_room)
 
 -- ---- whichever turn it is
 
-abbrev put : Bool → Cursor → Cursor
-put b c = record { at = c.at; from = c.from; inside = b }
+abbrev put : Option ℕ → Cursor → Cursor
+put b c = record { at = c.at; inside = b }
 
 module _ (wanted : ℕ → Bool) (s : List ℕ) (c : Cursor) where
-  pub into_inner : c.inside ≡ true → Standing wanted s c → Standing wanted s (inner c.at c.from)
-  into_inner e S = subst (λ (b : Bool). Standing wanted s (put b c)) e S
+  pub into_inner : (from : ℕ) → c.inside ≡ Some from → Standing wanted s c → Standing wanted s (inner c.at from)
+  into_inner from e S = subst (λ (b : Option ℕ). Standing wanted s (put b c)) e S
 
-  pub from_inner : (r : Turn) → c.inside ≡ true → Turned wanted s (inner c.at c.from) r → Turned wanted s c r
-  from_inner r e T = subst (λ (b : Bool). Turned wanted s (put b c) r) (sym e) T
+  pub from_inner : (r : Turn) (from : ℕ) → c.inside ≡ Some from → Turned wanted s (inner c.at from) r → Turned wanted s c r
+  from_inner r from e T = subst (λ (b : Option ℕ). Turned wanted s (put b c) r) (sym e) T
 
-  pub from_outer : (r : Turn) → c.inside ≡ false → Turned wanted s (outer c.at c.from) r → Turned wanted s c r
-  from_outer r e T = subst (λ (b : Bool). Turned wanted s (put b c) r) (sym e) T
+  pub from_outer : (r : Turn) → c.inside ≡ None → Turned wanted s (outer c.at) r → Turned wanted s c r
+  from_outer r e T = subst (λ (b : Option ℕ). Turned wanted s (put b c) r) (sym e) T
 
 pub ruleset advance_laws = (into_inner, from_inner, from_outer)
 
 -- ---- a walk starts before all postings of a ledger that is accepted
 
-pub walk_start : (wanted : ℕ → Bool) (s : List ℕ) (rs : List Row) → plain s ≡ accepted rs → Stands wanted s (outer 0 0) (postings wanted rs)
+pub walk_start : (wanted : ℕ → Bool) (s : List ℕ) (rs : List Row) → plain s ≡ accepted rs → Stands wanted s (outer 0) (postings wanted rs)
 unfolding scanned
 walk_start wanted s rs e =
     let z = plain_reads s rs e in

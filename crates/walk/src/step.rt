@@ -9,16 +9,14 @@ ghost use Rattle.walk.specs.Postings.{dated};
 ghost use Rattle.walk.specs.steps.Walks.{date_of, head_end, posted_in, outer, inner, Standing, Turned};
 
 use amount::kind;
-use entry::entry::Entry;
 use posting::body;
 use row::table;
 use row::table::{Row, WIDTH};
-use row::writer::{Out, Ran};
-use text::date::Dated;
+use row::writer::Out;
 use text::run::Class;
 use text::{date, run};
 
-// Kinds of items (M-108): a posting that states an amount, and one that does not.
+// Kinds of items (M-108): a posting that states an amount, and one that does not. Numbers, as rows hold them.
 const STATED: usize = 50;
 
 const UNSTATED: usize = 51;
@@ -29,21 +27,15 @@ const DATE: usize = 10;
 // A posting and the row directly after it.
 const TWO_ROWS: usize = 2 * WIDTH;
 
-// Where a walk stands: at an entry, or inside the body of the transaction that starts at `from`.
+// Where a walk stands: at an entry, or inside the body of the transaction that starts at a place.
 #[derive(Clone, Copy)]
 pub struct Cursor {
     pub at: usize,
-    pub from: usize,
-    pub inside: bool,
+    pub inside: Option<usize>,
 }
 
-// A posting and where it goes on; where it goes on; the end.
-#[derive(Clone, Copy)]
-pub enum Turn {
-    Found(Row, Cursor),
-    On(Cursor),
-    Done,
-}
+// Where a walk goes on, and the posting that it passed, if it passed one; nothing at the end.
+pub type Turn = Option<(Cursor, Option<Row>)>;
 
 // Whether a date, as the number yyyymmdd, is of that year and month.
 fn is_dated(date: usize, year: usize, month: usize) -> bool
@@ -56,10 +48,9 @@ fn is_dated(date: usize, year: usize, month: usize) -> bool
 fn date_of(s: &[u8]) -> usize
     ensures { result ≡ date_of (date_at s.now 0) }
 {
-    let d = date::date(s, 0);
-    match d {
-        Dated::On(_, y) => date::wide_date(y),
-        Dated::Miss => 0,
+    match date::date(s, 0) {
+        Some((_, date)) => date as usize,
+        None => 0,
     }
 }
 
@@ -68,56 +59,42 @@ fn body_start(s: &[u8]) -> usize
     requires { (length s.now ≤ size_limit) × (blanks s.now 10 ≤ length s.now) }
     ensures { result ≡ head_end (head_of s.now (blanks s.now 10)) }
 {
-    let g = run::run(s, DATE, Class::Blank);
+    let gap = run::run(s, DATE, Class::Blank);
     let mut none = [0u8; 1];
     let out = Out {
         rows: 0,
-        bad: 0,
-        place: 0,
+        refused: None,
     };
-    let h = transaction::transaction::head_at(s, g, 0, &mut none, out);
-    match h {
-        Ran::To(e, _) => e,
-        Ran::Miss => 0,
-        Ran::Hard(_, _) => 0,
+    match transaction::transaction::head_at(s, gap, 0, &mut none, out) {
+        Ok((e, _)) => e,
+        Err(_) => 0,
     }
 }
 
 // A turn at an entry: into a transaction of the month, or behind the entry.
-fn entry_turn(s: &[u8], at: usize, from: usize, year: usize, month: usize) -> Turn
+fn entry_turn(s: &[u8], at: usize, year: usize, month: usize) -> Turn
     requires { length s.now ≤ size_limit }
-    ensures { Turned (dated year month) s.now (outer at from) result }
+    ensures { Turned (dated year month) s.now (outer at) result }
 {
     if s.len() <= at {
-        return Turn::Done;
+        return None;
     }
     let mut none = [0u8; 1];
-    let x = entry::entry::entry_at(&s[at..], at, &mut none);
-    match x {
-        Entry::Read(kind, n, _) => {
-            if kind == kind::TRANSACTION {
-                if is_dated(date_of(&s[at..]), year, month) {
-                    let e = body_start(&s[at..]);
-                    return Turn::On(Cursor {
-                        at: at + e,
-                        from: at,
-                        inside: true,
-                    });
-                }
-                return Turn::On(Cursor {
-                    at: at + n,
-                    from: 0,
-                    inside: false,
-                });
-            }
-            Turn::On(Cursor {
-                at: at + n,
-                from: 0,
-                inside: false,
-            })
-        }
-        Entry::Refused(_, _) => Turn::Done,
+    let Ok(entry) = entry::entry::entry_at(&s[at..], at, &mut none) else {
+        return None;
+    };
+    if entry.kind == kind::TRANSACTION && is_dated(date_of(&s[at..]), year, month) {
+        let body = Cursor {
+            at: at + body_start(&s[at..]),
+            inside: Some(at),
+        };
+        return Some((body, None));
     }
+    let next = Cursor {
+        at: at + entry.size,
+        inside: None,
+    };
+    Some((next, None))
 }
 
 // The posting whose rows, n of them, were read into the table: its amount is the row directly after its own.
@@ -161,35 +138,24 @@ fn line_turn(s: &[u8], at: usize, from: usize, year: usize, month: usize) -> Tur
     let mut rows = [0u8; TWO_ROWS];
     let out = Out {
         rows: 0,
-        bad: 0,
-        place: 0,
+        refused: None,
     };
     let i = at - from;
-    let x = body::body_at(&s[from..], i, from, &mut rows, out, 1);
-    match x {
-        Ran::To(e, o) => {
-            if e == i {
-                return Turn::On(Cursor {
-                    at,
-                    from,
-                    inside: false,
-                });
-            }
-            let next = Cursor {
-                at: from + e,
-                from,
-                inside: true,
-            };
-            let n = o.rows;
-            if n == 0 {
-                return Turn::On(next);
-            }
-            let p = posted_in(&rows, n);
-            Turn::Found(p, next)
-        }
-        Ran::Miss => Turn::Done,
-        Ran::Hard(_, _) => Turn::Done,
+    let Ok((e, out)) = body::body_at(&s[from..], i, from, &mut rows, out, 1) else {
+        return None;
+    };
+    if e == i {
+        return Some((Cursor { at, inside: None }, None));
     }
+    let next = Cursor {
+        at: from + e,
+        inside: Some(from),
+    };
+    let n = out.rows;
+    if n == 0 {
+        return Some((next, None));
+    }
+    Some((next, Some(posted_in(&rows, n))))
 }
 
 // One turn of a walk over the postings of a month.
@@ -197,8 +163,8 @@ pub fn advance(s: &[u8], c: Cursor, year: usize, month: usize) -> Turn
     requires { (length s.now ≤ size_limit) × Standing (dated year month) s.now c }
     ensures { Turned (dated year month) s.now c result }
 {
-    if c.inside {
-        return line_turn(s, c.at, c.from, year, month);
+    match c.inside {
+        Some(from) => line_turn(s, c.at, from, year, month),
+        None => entry_turn(s, c.at, year, month),
     }
-    entry_turn(s, c.at, c.from, year, month)
 }

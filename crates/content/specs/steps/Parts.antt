@@ -1,9 +1,9 @@
 -- The contents of directives from each of their parts on, as the code reads them.
-use Rattle.std.specs.Prelude.{ℕ, suc, cond, List, [], ◌∷◌, eqb, length}
-use Rattle.decimal.specs.declared.Value.{Value}
+use Rattle.decimal.specs.Faults.{Value}
+use Rattle.std.specs.Prelude.{ℕ, suc, cond, List, [], ◌∷◌, eqb, length, Option}
 use Rattle.text.specs.Answer.{To, ◌then◌, ◌and◌, must, maybe, many}
 use Rattle.text.specs.Leaves.{gap, hard_gap, currency}
-use Rattle.text.specs.Refusals.{required_number}
+use Rattle.text.specs.Refusals.{missing}
 use Rattle.amount.specs.Kinds.{price_kind, balance_kind, open_kind, close_kind, pad_kind, commodity_kind, amount_kind, tolerance_kind}
 use Rattle.amount.specs.declared.detail.Detail.{Detail}
 use Rattle.amount.specs.Details.{Rows, valued}
@@ -14,7 +14,7 @@ use Rattle.content.specs.Contents.{hard_account, tolerance, balance_of, one_curr
 
 -- a required gap, and then a reader
 unfoldable pub past_gap : (List ℕ → ℕ → Rows) → List ℕ → ℕ → Rows
-past_gap f s at = hard_gap required_number s at and λ g. f s g
+past_gap f s at = hard_gap missing s at and λ g. f s g
 
 unfoldable pub tolerance_of : List ℕ → ℕ → Rows
 tolerance_of s at = maybe at (tolerance s at)
@@ -22,14 +22,14 @@ tolerance_of s at = maybe at (tolerance s at)
 unfoldable pub tolerance_read : List ℕ → ℕ → ℕ → Rows
 tolerance_read s at i = maybe at (expression s i then λ e v. To e (valued tolerance_kind i e 0 0 v ∷ []))
 
-unfoldable pub balance_end : ℕ → ℕ → Value → Detail → List ℕ → ℕ → Rows
+unfoldable pub balance_end : ℕ → ℕ → Value → Option Detail → List ℕ → ℕ → Rows
 balance_end g e v t s at =
-    hard_gap required_number s at and λ c. must required_number c (currency s c) and λ d. To d (valued amount_kind g e c d v ∷ some_row t)
+    hard_gap missing s at and λ c. must missing c (currency s c) and λ d. To d (valued amount_kind g e c d v ∷ some_row t)
 
 unfoldable pub balance_amount : List ℕ → ℕ → Rows
 balance_amount s g =
-    must required_number g (expression s g) then λ e v. tolerance_of s e then λ t ts. hard_gap required_number s t and λ c.
-    must required_number c (currency s c) and λ d. To d (valued amount_kind g e c d v ∷ ts)
+    must missing g (expression s g) then λ e v. tolerance_of s e then λ t ts. hard_gap missing s t and λ c.
+    must missing c (currency s c) and λ d. To d (valued amount_kind g e c d v ∷ ts)
 
 unfoldable pub gap_currency : List ℕ → ℕ → Rows
 gap_currency s at = gap s at and λ g. one_currency s g

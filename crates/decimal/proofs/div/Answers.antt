@@ -3,9 +3,6 @@ use Rattle.decimal.specs.Exact.{quotient}
 use borrow.Author.Rules.{rules}
 use Rattle.decimal.proofs.div.Goals as goal
 
-pub too_large-requires : goal.too_large-requires
-too_large-requires c = search (rules, operation_laws)
-
 pub returns-then-too_large : goal.returns-then-too_large
 unfolding quotient
 returns-then-too_large c = search (rules, operation_laws)
@@ -13,12 +10,6 @@ returns-then-too_large c = search (rules, operation_laws)
 pub returns-then-b-eq0 : goal.returns-then-b-eq0
 unfolding quotient
 returns-then-b-eq0 c = search (rules, operation_laws)
-
-pub unlike-minus-requires : goal.unlike-minus-requires
-unlike-minus-requires c = search (rules, operation_laws)
-
-pub over-requires : goal.over-requires
-over-requires c = search (rules, operation_laws)
 
 pub returns : goal.returns
 unfolding quotient

@@ -7,9 +7,6 @@ pub returns-then-whole-gt-LIMIT : goal.returns-then-whole-gt-LIMIT
 unfolding judged_of
 returns-then-whole-gt-LIMIT c = search (rules, by_tests)
 
-pub made-requires : goal.made-requires
-made-requires c = search (rules, by_tests)
-
 pub returns-then-rest-eq0 : goal.returns-then-rest-eq0
 unfolding judged_of
 returns-then-rest-eq0 c = search (rules, by_tests)

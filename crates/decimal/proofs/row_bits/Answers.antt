@@ -2,12 +2,6 @@ use Rattle.decimal.proofs.Whole.{bits_laws}
 use borrow.Author.Rules.{rules}
 use Rattle.decimal.proofs.row_bits.Goals as goal
 
-pub overflow_sub-result : goal.overflow_sub-result
-overflow_sub-result c = search (rules, bits_laws)
-
-pub overflow_add-result : goal.overflow_add-result
-overflow_add-result c = search (rules, bits_laws)
-
 pub returns-then-size-eq0 : goal.returns-then-size-eq0
 returns-then-size-eq0 c = search (rules, bits_laws)
 

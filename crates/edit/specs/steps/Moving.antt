@@ -1,5 +1,7 @@
 -- Rows picked and moved one by one, rows moved where they stand, and the parts of the answer.
-use Rattle.std.specs.Prelude.{ℕ, zero, suc, ◌+◌, ◌-◌, ◌*◌, ◌≤◌, ◌≡◌, Bool, true, false, cond, ◌||◌, ◌&&◌, List, [], ◌∷◌, ◌++◌, eqb, ltb, leb, length, take, drop}
+use Rattle.text.specs.declared.stop.Refused.{Refused}
+use Rattle.text.specs.Refusals.{refused_with}
+use Rattle.std.specs.Prelude.{ℕ, zero, suc, ◌+◌, ◌-◌, ◌*◌, ◌≤◌, ◌≡◌, Bool, true, false, cond, ◌||◌, ◌&&◌, List, [], ◌∷◌, ◌++◌, eqb, ltb, leb, length, take, drop, Err, Ok, Result}
 use Rattle.text.specs.Permitted.{size_limit}
 use Rattle.row.specs.declared.table.Row.{Row}
 use Rattle.row.specs.Row.{width, row_bytes, row_in, feeds, room}
@@ -111,8 +113,9 @@ pub record Counted (p : Plan) (t y : List ℕ) (c : Counts) : Type 0 where
   pub new : c.new ≡ length (recover_from (length y) 0 0 y)
   pub behind : c.behind ≡ length (behind_rows p t)
 
--- ---- refusals before 9, or 0
+-- ---- refusals before 9
 
-unfoldable pub refusal : List ℕ → List ℕ → ℕ → ℕ → ℕ → List ℕ → ℕ
-refusal s t k a e y =
-    cond (ltb size_limit (length s) || grows s a e y) 1 (cond (is_block s a e && (leb k (room t) && is_new s a e y)) 0 10)
+unfoldable pub allowed : List ℕ → List ℕ → ℕ → ℕ → ℕ → List ℕ → Result Unit Refused
+allowed s t k a e y =
+    cond (ltb size_limit (length s) || grows s a e y) (Err (refused_with 1 0 0))
+    (cond (is_block s a e && (leb k (room t) && is_new s a e y)) (Ok tt) (Err (refused_with 10 0 0)))

@@ -2,11 +2,8 @@ use Rattle.engine.proofs.Answering.{look_laws}
 use borrow.Author.Rules.{rules}
 use Rattle.engine.proofs.operand.Goals as goal
 
-pub returns-in-Read : goal.returns-in-Read
-returns-in-Read c = search (rules, look_laws)
+pub returns-in-Ok : goal.returns-in-Ok
+returns-in-Ok c = search (rules, look_laws)
 
-pub returns-in-Miss : goal.returns-in-Miss
-returns-in-Miss c = search (rules, look_laws)
-
-pub returns-in-Deep : goal.returns-in-Deep
-returns-in-Deep c = search (rules, look_laws)
+pub returns-in-Err : goal.returns-in-Err
+returns-in-Err c = search (rules, look_laws)

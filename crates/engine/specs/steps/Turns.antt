@@ -1,7 +1,7 @@
 -- What the engine's functions work out, in an arithmetic calc.
+use Rattle.decimal.specs.Faults.{Value}
 use Rattle.std.specs.Prelude.{ℕ, ◌+◌, Bool, true, false, cond, ◌||◌, List, eqb, get_or}
 use Prim.Native.Char.{code}
-use Rattle.decimal.specs.declared.Value.{Value}
 use Rattle.text.specs.Run.{blanks}
 use Rattle.text.specs.Answer.{Ans, To, Miss, Hard}
 use Rattle.amount.specs.Literal.{literal}

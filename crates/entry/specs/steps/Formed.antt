@@ -1,14 +1,15 @@
 -- Forms of an entry, as the code reads them: its enums of a rule's answer, and what was done.
-use Rattle.std.specs.Prelude.{ℕ, List, [], map, ◌≡◌}
+use Rattle.entry.specs.declared.directive.Formed.{Formed}
+use Rattle.text.specs.declared.stop.Stop.{Stop}
+use Rattle.text.specs.steps.Told.{Reading}
+use Rattle.std.specs.Prelude.{ℕ, List, [], map, ◌≡◌, None, Option, Some, Err, Ok}
 use Rattle.text.specs.Bytes.{bytes}
 use Rattle.text.specs.Words.{word_at}
 use Rattle.text.specs.Answer.{Ans, To, Miss, Hard, ◌and◌, ◌else◌}
-use Rattle.text.specs.declared.Read.{Read}
 use Rattle.amount.specs.Kinds.{price_kind, balance_kind, open_kind, close_kind, pad_kind, commodity_kind, event_kind}
 use Rattle.amount.specs.Details.{Rows}
 use Rattle.amount.specs.Amounts.{hard_currency, price_of}
 use Rattle.row.specs.declared.writer.Out.{Out}
-use Rattle.row.specs.declared.writer.Ran.{Ran}
 use Rattle.row.specs.steps.Writing.{laid, outs, Poured}
 use Rattle.content.specs.Contents.{hard_account, balance_of, open_of, pad_of, event_of}
 use Rattle.entry.specs.Directive.{keyword}
@@ -16,30 +17,28 @@ use Rattle.entry.specs.Forms.{Form, as_entry}
 use Rattle.content.specs.steps.Parts.{content_of}
 use Rattle.posting.specs.Metadata.{metadata}
 use Rattle.text.specs.Leaves.{hard_gap, line_end}
-use Rattle.text.specs.Refusals.{word_gap_number}
-use Rattle.entry.specs.declared.directive.Formed.{Formed}
-use Rattle.entry.specs.declared.directive.Keyword.{Keyword}
+use Rattle.text.specs.Refusals.{missing_gap}
 
 -- a keyword of a kind, or what the next gives
-unfoldable pub or_keyword : ℕ → Read → Keyword → Keyword
-or_keyword k (Read.To e) next = Keyword.Read k e
-or_keyword k Read.Miss next = next
+unfoldable pub or_keyword : ℕ → Option ℕ → Option (ℕ × ℕ) → Option (ℕ × ℕ)
+or_keyword k (Some e) next = Some (k, e)
+or_keyword k None next = next
 
-unfoldable pub late_keyword : List ℕ → ℕ → Keyword
+unfoldable pub late_keyword : List ℕ → ℕ → Option (ℕ × ℕ)
 late_keyword s at =
-    or_keyword pad_kind (word_at (bytes "pad") s at) (or_keyword commodity_kind (word_at (bytes "commodity") s at) (or_keyword event_kind (word_at (bytes "event") s at) Keyword.Miss))
+    or_keyword pad_kind (word_at (bytes "pad") s at) (or_keyword commodity_kind (word_at (bytes "commodity") s at) (or_keyword event_kind (word_at (bytes "event") s at) None))
 
-unfoldable pub middle_keyword : List ℕ → ℕ → Keyword
+unfoldable pub middle_keyword : List ℕ → ℕ → Option (ℕ × ℕ)
 middle_keyword s at = or_keyword open_kind (word_at (bytes "open") s at) (or_keyword close_kind (word_at (bytes "close") s at) (late_keyword s at))
 
-unfoldable pub keyword_at : List ℕ → ℕ → Keyword
+unfoldable pub keyword_at : List ℕ → ℕ → Option (ℕ × ℕ)
 keyword_at s at = or_keyword price_kind (word_at (bytes "price") s at) (or_keyword balance_kind (word_at (bytes "balance") s at) (middle_keyword s at))
 
 unfoldable pub content_end : ℕ → List ℕ → ℕ → Rows
 content_end k s at = content_of k s at and λ m. line_end s m and λ l. metadata s l
 
 unfoldable pub gap_content : ℕ → List ℕ → ℕ → Rows
-gap_content k s at = hard_gap word_gap_number s at and λ g. content_end k s g
+gap_content k s at = hard_gap missing_gap s at and λ g. content_end k s g
 
 -- the seven keywords with their contents
 unfoldable pub by_keyword : ℕ → List ℕ → ℕ → Ans Form
@@ -53,15 +52,14 @@ by_keyword d s g =
     let event = as_entry event_kind d (keyword "event" event_of s g) in
     price else balance else opens else close else pad else commodity else event
 
--- the code's enum of what a reader that writes answered
-unfoldable pub formed_of : ℕ → ℕ → Ran → Formed
-formed_of k d (Ran.To e o) = Formed.Read k d e o
-formed_of k d Ran.Miss = Formed.Miss
-formed_of k d (Ran.Hard n p) = Formed.Hard n p
+-- the code's answer of what a reader that writes answered
+unfoldable pub formed_of : ℕ → ℕ → Reading Out → Reading Formed
+formed_of k d (Ok (e, o)) = Ok (e, record { kind = k; date = d; out = o })
+formed_of k d (Err stop) = Err stop
 
 -- what was done for a form: as Did of row
-abbrev pub DidForm : ℕ → Ans Form → Out → List ℕ → List ℕ → Formed → Type 0
+abbrev pub DidForm : ℕ → Ans Form → Out → List ℕ → List ℕ → Reading Formed → Type 0
 DidForm base (To e f) o t u r =
-    (r ≡ Formed.Read f.kind f.date e (outs o f.details)) × Poured o.rows (map (laid base) f.details) t u
-DidForm base Miss o t u r = (r ≡ Formed.Miss) × Poured o.rows [] t u
-DidForm base (Hard k p) o t u r = r ≡ Formed.Hard k p
+    (r ≡ Ok (e, record { kind = f.kind; date = f.date; out = outs o f.details })) × Poured o.rows (map (laid base) f.details) t u
+DidForm base Miss o t u r = (r ≡ Err Stop.Miss) × Poured o.rows [] t u
+DidForm base (Hard k p) o t u r = r ≡ Err (Stop.Hard k p)

@@ -1,4 +1,4 @@
-use Rattle.lumbrisse.proofs.NumberLaws.{part_laws}
+use Rattle.lumbrisse.proofs.PartLaws.{part_laws}
 use borrow.Author.Rules.{rules}
 use Rattle.lumbrisse.proofs.lumbrisse_span.Goals as goal
 

@@ -1,8 +1,8 @@
 use mathlib.Core.Path.{◌∙◌, ap}
-use Rattle.lumbrisse.specs.Numbers.{rewrite_reply}
+use Rattle.lumbrisse.specs.Numbers.{reply_of}
 use Rattle.lumbrisse.proofs.lumbrisse_write.Goals as goal
 
 pub returns : goal.returns
 returns c =
     let done = c.write-a.ensures in
-    record { reply = c.rewrite_reply.ensures ∙ ap rewrite_reply done.answer; output = done.output; work = done.work }
+    record { reply = c.reply_of.ensures ∙ ap reply_of done.answer; output = done.output; work = done.work }

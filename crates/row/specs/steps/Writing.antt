@@ -1,12 +1,13 @@
 -- What the row writer holds, and what a reader that writes has done.
-use Rattle.std.specs.Prelude.{ℕ, ◌+◌, ◌*◌, ◌≤◌, cond, List, [], ◌∷◌, ◌++◌, map, ◌≡◌, eqb, length}
-use Rattle.decimal.specs.declared.Value.TheVariants.{Known, Refused}
+use Rattle.text.specs.declared.stop.Stop.{Stop}
+use Rattle.text.specs.steps.Told.{Reading}
+use Rattle.decimal.specs.declared.Fault.{Fault}
+use Rattle.std.specs.Prelude.{ℕ, ◌+◌, ◌*◌, ◌≤◌, cond, List, [], ◌∷◌, ◌++◌, map, ◌≡◌, length, Err, Ok, None, Option, Some}
 use Rattle.text.specs.Answer.{To, Miss, Hard}
 use Rattle.text.specs.Permitted.{size_limit}
 use Rattle.amount.specs.declared.detail.Detail.{Detail}
 use Rattle.amount.specs.Details.{Rows}
 use Rattle.row.specs.declared.writer.Out.{Out}
-use Rattle.row.specs.declared.writer.Ran.{Ran}
 use Rattle.row.specs.declared.table.Row.{Row}
 use Rattle.row.specs.steps.Pouring.{pour_at}
 use Rattle.row.specs.Row.{row_of}
@@ -18,21 +19,19 @@ laid base d =
     row_of d.kind (base + d.start) (base + d.end) 0 (cond (spanned d.kind) (base + d.p) d.p) (cond (spanned d.kind) (base + d.q) d.q)
     (millionths d.value)
 
--- one row more
-abbrev pub one_more : Out → Out
-one_more o = record { rows = o.rows + 1; bad = o.bad; place = o.place }
+-- the first refused value is kept, with its place
+unfoldable pub first_refused : Option (Fault × ℕ) → Detail → Option (Fault × ℕ)
+first_refused (Some first) d = Some first
+first_refused None d = elim d.value [ Ok x ↦ None | Err fault ↦ Some (fault, value_place d) ]
 
--- the first refused value is kept: `bad` is one plus its number, 0 for none
+-- one row more
 unfoldable pub noted : Out → Detail → Out
-noted o d =
-    elim d.value [
-      | Known x ↦ one_more o
-      | Refused n ↦ cond (eqb o.bad 0) (record { rows = o.rows + 1; bad = n + 1; place = value_place d }) (one_more o)
-    ]
+noted o d = record { rows = o.rows + 1; refused = first_refused o.refused d }
 
 -- a row, if it is one
-unfoldable pub some_row : Detail → List Detail
-some_row d = cond (eqb d.kind 0) [] (d ∷ [])
+unfoldable pub some_row : Option Detail → List Detail
+some_row None = []
+some_row (Some d) = d ∷ []
 
 unfoldable pub outs : Out → List Detail → Out
 outs o [] = o
@@ -45,10 +44,10 @@ Poured n rs t u = (xs : List Row) × (u ≡ pour_at n (rs ++ xs) t)
 
 -- what was done for the answer a of a rule, where o was held and t was the table: u is the table now, r the code's
 -- answer
-abbrev pub Did : ℕ → Rows → Out → List ℕ → List ℕ → Ran → Type 0
-Did base (To e ds) o t u r = (r ≡ Ran.To e (outs o ds)) × Poured o.rows (map (laid base) ds) t u
-Did base Miss o t u r = (r ≡ Ran.Miss) × Poured o.rows [] t u
-Did base (Hard k p) o t u r = r ≡ Ran.Hard k p
+abbrev pub Did : ℕ → Rows → Out → List ℕ → List ℕ → Reading Out → Type 0
+Did base (To e ds) o t u r = (r ≡ Ok (e, (outs o ds))) × Poured o.rows (map (laid base) ds) t u
+Did base Miss o t u r = (r ≡ Err Stop.Miss) × Poured o.rows [] t u
+Did base (Hard k p) o t u r = r ≡ Err (Stop.Hard k p)
 
 -- ---- what the code asks for, so that places and counts stay small
 

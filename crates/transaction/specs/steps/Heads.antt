@@ -1,38 +1,37 @@
 -- A transaction from each of its parts on, as the code reads it.
-use Rattle.std.specs.Prelude.{ℕ, ◌+◌, ◌-◌, List, [], ◌∷◌}
+use Rattle.text.specs.declared.stop.Stop.{Stop}
+use Rattle.text.specs.steps.Told.{Reading}
+use Rattle.std.specs.Prelude.{ℕ, ◌+◌, ◌-◌, List, [], ◌∷◌, None, Option, Some, Err, Ok}
 use Rattle.text.specs.Answer.{To, ◌and◌, ◌else◌, must, maybe}
 use Rattle.text.specs.Bytes.{bytes}
 use Rattle.text.specs.Lines.{gap_at}
 use Rattle.text.specs.Strings.{string_at}
 use Rattle.text.specs.Words.{word_at}
 use Rattle.text.specs.Leaves.{gap, string, link, line_end}
-use Rattle.text.specs.declared.Read.{Read}
-use Rattle.text.specs.Refusals.{required_number}
+use Rattle.text.specs.Refusals.{missing}
 use Rattle.amount.specs.Kinds.{payee_kind, narration_kind, link_kind}
 use Rattle.amount.specs.Details.{Rows, span}
 use Rattle.row.specs.declared.writer.Out.{Out}
-use Rattle.row.specs.declared.writer.Ran.{Ran}
 use Rattle.posting.specs.Metadata.{metadata}
 use Rattle.transaction.specs.Transaction.{opening, texts, marks}
-use Rattle.transaction.specs.declared.transaction.GapString.{GapString}
 
 -- a word that makes no row
-unfoldable pub bare_ran : Read → Out → Ran
-bare_ran (Read.To e) o = Ran.To e o
-bare_ran Read.Miss o = Ran.Miss
+unfoldable pub bare_ran : Option ℕ → Out → Reading Out
+bare_ran (Some e) o = Ok (e, o)
+bare_ran None o = (Err Stop.Miss)
 
-abbrev pub txn_ran : List ℕ → ℕ → Out → Ran
+abbrev pub txn_ran : List ℕ → ℕ → Out → Reading Out
 txn_ran s at o = bare_ran (word_at (bytes "txn") s at) o
 
-unfoldable pub with_string : ℕ → Read → GapString
-with_string a (Read.To e) = GapString.Read a e
-with_string a Read.Miss = GapString.Miss
+unfoldable pub with_string : ℕ → Option ℕ → Option (ℕ × ℕ)
+with_string a (Some e) = Some (a, e)
+with_string a None = None
 
-unfoldable pub after_gap : List ℕ → Read → GapString
-after_gap s (Read.To a) = with_string a (string_at s a)
-after_gap s Read.Miss = GapString.Miss
+unfoldable pub after_gap : List ℕ → Option ℕ → Option (ℕ × ℕ)
+after_gap s (Some a) = with_string a (string_at s a)
+after_gap s None = None
 
-abbrev pub gap_string : List ℕ → ℕ → GapString
+abbrev pub gap_string : List ℕ → ℕ → Option (ℕ × ℕ)
 gap_string s at = after_gap s (gap_at s at)
 
 unfoldable pub second_text : List ℕ → ℕ → ℕ → Rows
@@ -46,7 +45,7 @@ unfoldable pub link_mark : List ℕ → ℕ → Rows
 link_mark s b = link s b and λ e. To e (span link_kind (b + 1) e ∷ [])
 
 unfoldable pub marked_of : List ℕ → ℕ → Rows
-marked_of s at = marks s at and λ c. must required_number c (line_end s c) and λ d. metadata s d
+marked_of s at = marks s at and λ c. must missing c (line_end s c) and λ d. metadata s d
 
 unfoldable pub texted_of : List ℕ → ℕ → Rows
 texted_of s at = texts_of s at and λ b. marked_of s b

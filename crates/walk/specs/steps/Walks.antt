@@ -1,7 +1,6 @@
 -- Where a walk stands: which rows, and which postings, are still to come; and what a turn tells.
-use Rattle.std.specs.Prelude.{ℕ, ◌+◌, ◌-◌, ◌*◌, ◌≤◌, ◌<◌, ◌≡◌, Bool, true, false, cond, List, [], ◌∷◌, ◌++◌, map, ltb, length, drop}
+use Rattle.std.specs.Prelude.{ℕ, ◌+◌, ◌-◌, ◌*◌, ◌≤◌, ◌<◌, ◌≡◌, Bool, cond, List, [], ◌∷◌, ◌++◌, map, ltb, length, drop, None, Option, Some, is_some}
 use Rattle.text.specs.Answer.{To, Miss, Hard}
-use Rattle.text.specs.declared.date.Dated.{Dated}
 use Rattle.amount.specs.declared.detail.Detail.{Detail}
 use Rattle.amount.specs.Details.{Rows}
 use Rattle.row.specs.declared.table.Row.{Row}
@@ -13,11 +12,10 @@ use Rattle.ledger.specs.Plain.{accepted, read_from}
 use Rattle.ledger.specs.steps.Scan.{with_line}
 use Rattle.walk.specs.Postings.{posting, postings_from}
 use Rattle.walk.specs.declared.step.Cursor.{Cursor}
-use Rattle.walk.specs.declared.step.Turn.{Turn}
 
-unfoldable pub date_of : Dated → ℕ
-date_of (Dated.On e y) = y
-date_of Dated.Miss = 0
+unfoldable pub date_of : Option (ℕ × ℕ) → ℕ
+date_of (Some (e, y)) = y
+date_of None = 0
 
 -- where a head that was read ends
 unfoldable pub head_end : Rows → ℕ
@@ -48,23 +46,23 @@ pub record Within (s : List ℕ) (at from : ℕ) (ys : List Row) : Type 0 where
   pub rest : Rest s (from + end) others
   pub all : ys ≡ map (laid from) details ++ others
 
-abbrev pub Comes : Bool → List ℕ → ℕ → ℕ → List Row → Type 0
-Comes true s at from ys = Within s at from ys
-Comes false s at from ys = Rest s at ys
+abbrev pub Comes : Option ℕ → List ℕ → ℕ → List Row → Type 0
+Comes (Some from) s at ys = Within s at from ys
+Comes None s at ys = Rest s at ys
 
 -- at an entry, and inside a transaction whose date is wanted
-abbrev pub outer : ℕ → ℕ → Cursor
-outer at from = record { at = at; from = from; inside = false }
+abbrev pub outer : ℕ → Cursor
+outer at = record { at = at; inside = None }
 
 abbrev pub inner : ℕ → ℕ → Cursor
-inner at from = record { at = at; from = from; inside = true }
+inner at from = record { at = at; inside = Some from }
 
 -- the postings that are still to come
 pub record Stands (wanted : ℕ → Bool) (s : List ℕ) (c : Cursor) (ps : List Row) : Type 0 where
   pub inside : c.at ≤ length s
   pub rows : List Row
-  pub comes : Comes c.inside s c.at c.from rows
-  pub these : ps ≡ postings_from wanted c.inside rows
+  pub comes : Comes c.inside s c.at rows
+  pub these : ps ≡ postings_from wanted (is_some c.inside) rows
 
 pub record Standing (wanted : ℕ → Bool) (s : List ℕ) (c : Cursor) : Type 0 where
   pub these : List Row
@@ -72,14 +70,18 @@ pub record Standing (wanted : ℕ → Bool) (s : List ℕ) (c : Cursor) : Type 0
 
 -- what falls with each turn
 abbrev pub left : List ℕ → Cursor → ℕ
-left s c = 2 * (length s - c.at) + cond c.inside 1 0
+left s c = 2 * (length s - c.at) + cond (is_some c.inside) 1 0
+
+-- where a walk goes on, and the posting that it passed, if it passed one; nothing at the end
+abbrev pub Turn : Type 0
+Turn = Option (Cursor × Option Row)
 
 -- what a turn tells, where the postings ps were to come
 abbrev pub Told : (ℕ → Bool) → List ℕ → Cursor → Turn → List Row → Type 0
-Told wanted s c (Turn.Found p d) ps =
+Told wanted s c (Some (d, Some p)) ps =
     (qs : List Row) × (ps ≡ p ∷ qs) × Held p × Stands wanted s d qs × (left s d < left s c) × (c.at < d.at)
-Told wanted s c (Turn.On d) ps = Stands wanted s d ps × (left s d < left s c) × (c.at ≤ d.at)
-Told wanted s c Turn.Done ps = ps ≡ []
+Told wanted s c (Some (d, None)) ps = Stands wanted s d ps × (left s d < left s c) × (c.at ≤ d.at)
+Told wanted s c None ps = ps ≡ []
 
 -- a turn that was made, whatever is to come
 pub record Turned (wanted : ℕ → Bool) (s : List ℕ) (c : Cursor) (r : Turn) : Type 0 where

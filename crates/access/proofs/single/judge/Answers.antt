@@ -5,9 +5,6 @@ use Rattle.access.proofs.single.judge.Goals as goal
 pub returns-then-text-gt-SIZE : goal.returns-then-text-gt-SIZE
 returns-then-text-gt-SIZE c = search (rules, single_laws)
 
-pub clean_prefix-c-requires : goal.clean_prefix-c-requires
-clean_prefix-c-requires c = search (rules, single_laws)
-
 pub returns-then-c-text : goal.returns-then-c-text
 returns-then-c-text c = search (rules, single_laws)
 

@@ -1,24 +1,14 @@
 use Rattle.access.proofs.SingleLaws.{single_laws}
+use Rattle.access.specs.steps.Telling.{told_of}
 use borrow.Author.Rules.{rules}
 use Rattle.access.proofs.single.told.Goals as goal
 
-pub enum_known-a : goal.enum_known-a
-enum_known-a c = search (rules, single_laws)
+pub returns-in-Ok : goal.returns-in-Ok
+returns-in-Ok c = search (rules, single_laws)
 
-pub valued-requires : goal.valued-requires
-valued-requires c = search (rules, single_laws)
+pub returns-in-Err-Miss : goal.returns-in-Err-Miss
+returns-in-Err-Miss c = search (rules, single_laws)
 
-pub enum_told-1 : goal.enum_told-1
-enum_told-1 c = search (rules, single_laws)
-
-pub enum_known-a-in-Deep-1 : goal.enum_known-a-in-Deep-1
-enum_known-a-in-Deep-1 c = search (rules, single_laws)
-
-pub returns-in-Read : goal.returns-in-Read
-returns-in-Read c = search (rules, single_laws)
-
-pub returns-in-Miss : goal.returns-in-Miss
-returns-in-Miss c = search (rules, single_laws)
-
-pub returns-in-Deep : goal.returns-in-Deep
-returns-in-Deep c = search (rules, single_laws)
+pub returns-in-Err-Hard : goal.returns-in-Err-Hard
+unfolding told_of
+returns-in-Err-Hard c = search (rules, single_laws)

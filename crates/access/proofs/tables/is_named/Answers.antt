@@ -17,9 +17,6 @@ is_good-requires c = search (rules, name_laws)
 pub text_of-requires : goal.text_of-requires
 text_of-requires c = search (rules, name_laws)
 
-pub is_same-requires : goal.is_same-requires
-is_same-requires c = search (rules, name_laws)
-
 pub returns-then-is_good : goal.returns-then-is_good
 returns-then-is_good c = search (rules, name_laws)
 

@@ -5,14 +5,11 @@ use Rattle.access.proofs.tables.last_named.Goals as goal
 pub loop-j-init : goal.loop-j-init
 loop-j-init c = search (rules, last_laws)
 
-pub overflow_sub-j : goal.overflow_sub-j
-overflow_sub-j c = search (rules, last_laws)
-
 pub is_named-requires : goal.is_named-requires
 is_named-requires c = search (rules, last_laws)
 
-pub row_of-this-requires : goal.row_of-this-requires
-row_of-this-requires c = search (rules, last_laws)
+pub row_of-requires : goal.row_of-requires
+row_of-requires c = search (rules, last_laws)
 
 pub returns-then-is_named : goal.returns-then-is_named
 returns-then-is_named c = search (rules, last_laws)

@@ -2,26 +2,8 @@ use Rattle.amount.proofs.AmountForms.{required_laws}
 use borrow.Author.Rules.{rules}
 use Rattle.amount.proofs.amounts.required_amount.Goals as goal
 
-pub expression_at-x-requires : goal.expression_at-x-requires
-expression_at-x-requires c = search (rules, required_laws)
+pub returns-in_err-e : goal.returns-in_err-e
+returns-in_err-e c = search (rules, required_laws, c.in_err-e.was)
 
-pub enum_known-x : goal.enum_known-x
-enum_known-x c = search (rules, required_laws)
-
-pub required_end-requires : goal.required_end-requires
-required_end-requires c = search (rules, required_laws)
-
-pub enum_told-1 : goal.enum_told-1
-enum_told-1 c = search (rules, required_laws)
-
-pub enum_known-x-in-Deep-1 : goal.enum_known-x-in-Deep-1
-enum_known-x-in-Deep-1 c = search (rules, required_laws)
-
-pub returns-in-Read : goal.returns-in-Read
-returns-in-Read c = search (rules, required_laws)
-
-pub returns-in-Miss : goal.returns-in-Miss
-returns-in-Miss c = search (rules, required_laws)
-
-pub returns-in-Deep : goal.returns-in-Deep
-returns-in-Deep c = search (rules, required_laws)
+pub returns : goal.returns
+returns c = search (rules, required_laws, c.in_ok-e.was)

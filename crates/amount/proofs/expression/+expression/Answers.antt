@@ -1,35 +1,19 @@
 use Rattle.amount.specs.Expression.{chain, atom, products, sums, in_group, within}
-use Rattle.amount.specs.steps.Answers.{operator_of, operand_of}
-use Rattle.amount.proofs.Forms.{stage, sum_stage, form_laws, operand_laws, goes_laws}
+use Rattle.amount.specs.steps.Answers.{operator_of, operand_of, answer_of}
+use Rattle.amount.proofs.Forms.{stage, sum_stage, form_laws, operand_laws, goes_laws, goes_more}
 use borrow.Author.Rules.{rules}
 use Rattle.amount.proofs.expression.+expression.Goals as goal
-
-pub atom_at-returns-in-Read : goal.atom_at-returns-in-Read
-unfolding atom
-atom_at-returns-in-Read t c = search (rules, form_laws)
-
-pub atom_at-returns-in-Miss : goal.atom_at-returns-in-Miss
-unfolding atom
-atom_at-returns-in-Miss t c = search (rules, form_laws)
-
-pub atom_at-returns-in-Deep : goal.atom_at-returns-in-Deep
-unfolding atom
-atom_at-returns-in-Deep t c = search (rules, form_laws)
 
 pub chain_from-overflow_add-i : goal.chain_from-overflow_add-i
 chain_from-overflow_add-i t c = search (rules, goes_laws)
 
-pub chain_from-returns-in-Miss : goal.chain_from-returns-in-Miss
-chain_from-returns-in-Miss t c = search (rules, goes_laws)
-
-pub chain_from-returns-in-Deep : goal.chain_from-returns-in-Deep
-chain_from-returns-in-Deep t c = search (rules, goes_laws)
-
 pub chain_from-returns-else-is_operator : goal.chain_from-returns-else-is_operator
 chain_from-returns-else-is_operator t c = search (rules, goes_laws)
 
-pub chain_from-loop-turns-preserved : goal.chain_from-loop-turns-preserved
-chain_from-loop-turns-preserved t c = search (rules, goes_laws)
+pub chain_from-loop-preserved : goal.chain_from-loop-preserved
+chain_from-loop-preserved t c =
+    goes_more _ _ _ _ _ _ _ _ c.loop.invariant (search rules) _ _ _ c.run-i.ensures.value c.peek-op.ensures c.is_operator.ensures c.if-is_operator.true _ _
+    c.run.ensures.value c.operand_at.ensures _ _ _ _ (search rules) c.in-Ok.is c.combine-value.ensures
 
 pub chain_from-returns : goal.chain_from-returns
 chain_from-returns t c = search (rules, goes_laws)
@@ -37,17 +21,11 @@ chain_from-returns t c = search (rules, goes_laws)
 pub group_at-returns-then-left-eq0 : goal.group_at-returns-then-left-eq0
 group_at-returns-then-left-eq0 t c = search (rules, form_laws)
 
-pub group_at-overflow_add-at : goal.group_at-overflow_add-at
-group_at-overflow_add-at t c = search (rules, form_laws)
-
 pub group_at-returns-then-peek-eq40 : goal.group_at-returns-then-peek-eq40
 group_at-returns-then-peek-eq40 t c = search (rules, form_laws)
 
 pub group_at-returns : goal.group_at-returns
 group_at-returns t c = search (rules, form_laws)
-
-pub negation_at-overflow_add-at : goal.negation_at-overflow_add-at
-negation_at-overflow_add-at t c = search (rules, form_laws)
 
 pub negation_at-returns-then-peek-eq45 : goal.negation_at-returns-then-peek-eq45
 negation_at-returns-then-peek-eq45 t c = search (rules, form_laws)
@@ -68,42 +46,52 @@ pub product_at-chain_from-requires : goal.product_at-chain_from-requires
 unfolding stage
 product_at-chain_from-requires t c = search rules
 
-pub product_at-returns-in-Read : goal.product_at-returns-in-Read
-unfolding products chain operator_of operand_of
-product_at-returns-in-Read t c = search (rules, form_laws)
-
-pub product_at-returns-in-Miss : goal.product_at-returns-in-Miss
-unfolding products chain operator_of operand_of
-product_at-returns-in-Miss t c = search (rules, form_laws)
-
-pub product_at-returns-in-Deep : goal.product_at-returns-in-Deep
-unfolding products chain operator_of operand_of
-product_at-returns-in-Deep t c = search (rules, form_laws)
-
 pub sum_at-chain_from-requires : goal.sum_at-chain_from-requires
 unfolding stage
 sum_at-chain_from-requires t c = search rules
 
-pub sum_at-returns-in-Read : goal.sum_at-returns-in-Read
+pub atom_at-returns-in-Err-Miss : goal.atom_at-returns-in-Err-Miss
+unfolding atom
+atom_at-returns-in-Err-Miss t c = search (rules, form_laws)
+
+pub atom_at-returns-in_default : goal.atom_at-returns-in_default
+unfolding atom
+atom_at-returns-in_default t c = search (rules, form_laws)
+
+pub atom_at-returns-in_default-2 : goal.atom_at-returns-in_default-2
+unfolding atom
+atom_at-returns-in_default-2 t c = search (rules, form_laws)
+
+pub chain_from-returns-in-Err-Miss : goal.chain_from-returns-in-Err-Miss
+chain_from-returns-in-Err-Miss t c = search (rules, goes_laws)
+
+pub chain_from-returns-in-Err : goal.chain_from-returns-in-Err
+chain_from-returns-in-Err t c = search (rules, goes_laws)
+
+pub product_at-returns-in_err-e : goal.product_at-returns-in_err-e
+unfolding products chain operator_of operand_of
+product_at-returns-in_err-e t c = search (rules, form_laws, c.in_err-e.was)
+
+pub product_at-returns : goal.product_at-returns
+unfolding products chain operator_of operand_of
+product_at-returns t c = search (rules, form_laws, c.in_ok-e.was)
+
+pub sum_at-returns-in_err-e : goal.sum_at-returns-in_err-e
 unfolding sums chain operator_of operand_of
-sum_at-returns-in-Read t c = search (rules, form_laws)
+sum_at-returns-in_err-e t c = search (rules, form_laws, c.in_err-e.was)
 
-pub sum_at-returns-in-Miss : goal.sum_at-returns-in-Miss
+pub sum_at-returns : goal.sum_at-returns
 unfolding sums chain operator_of operand_of
-sum_at-returns-in-Miss t c = search (rules, form_laws)
+sum_at-returns t c = search (rules, form_laws, c.in_ok-e.was)
 
-pub sum_at-returns-in-Deep : goal.sum_at-returns-in-Deep
-unfolding sums chain operator_of operand_of
-sum_at-returns-in-Deep t c = search (rules, form_laws)
-
-pub within_at-returns-in-Read : goal.within_at-returns-in-Read
+pub within_at-returns-in-Err-Miss : goal.within_at-returns-in-Err-Miss
 unfolding within in_group
-within_at-returns-in-Read t c = search (rules, form_laws)
+within_at-returns-in-Err-Miss t c = search (rules, form_laws)
 
-pub within_at-returns-in-Miss : goal.within_at-returns-in-Miss
-unfolding within in_group
-within_at-returns-in-Miss t c = search (rules, form_laws)
+pub within_at-returns-in_default : goal.within_at-returns-in_default
+unfolding within in_group answer_of
+within_at-returns-in_default t c = search (rules, form_laws)
 
-pub within_at-returns-in-Deep : goal.within_at-returns-in-Deep
-unfolding within in_group
-within_at-returns-in-Deep t c = search (rules, form_laws)
+pub within_at-returns-in_default-2 : goal.within_at-returns-in_default-2
+unfolding within in_group answer_of
+within_at-returns-in_default-2 t c = search (rules, form_laws)

@@ -1,4 +1,4 @@
-use Rattle.std.proofs.Common.{◌≡◌, ◌+◌, ◌*◌}
+use Rattle.std.proofs.Common.{◌≡◌, ◌+◌, ◌-◌, ◌*◌, length}
 use Rattle.amount.specs.Expression.{combined, goes_on, group}
 use Rattle.amount.specs.steps.Answers.{operator_of, operand_of}
 use Rattle.amount.proofs.Forms.{stage}
@@ -29,9 +29,7 @@ decreases-sum_at l = 10 * l.left + 8
 abbrev pub decreases-within_at : goal.decreases-within_at
 decreases-within_at l = 10 * l.left + 9
 
-abbrev pub invariant-chain_from-loop-turns : goal.invariant-chain_from-loop-turns
-invariant-chain_from-loop-turns l =
-    goes_on (combined l.form) (operator_of l.times) (operand_of l.times (combined l.form) (group (combined l.form) l.left l.s) l.s) l.s l.turns l.value l.end ≡ goes_on (combined l.form) (operator_of l.times) (operand_of l.times (combined l.form) (group (combined l.form) l.left l.s) l.s) l.s l.initial.turns l.initial.value l.initial.end
-
-abbrev pub decreases-chain_from-loop-turns : goal.decreases-chain_from-loop-turns
-decreases-chain_from-loop-turns l = l.turns
+abbrev pub invariant-chain_from-loop : goal.invariant-chain_from-loop
+invariant-chain_from-loop l =
+    goes_on (combined l.form) (operator_of l.times) (operand_of l.times (combined l.form) (group (combined l.form) l.left l.s) l.s) l.s (length l.s - l.counter) l.value l.end-2
+    ≡ goes_on (combined l.form) (operator_of l.times) (operand_of l.times (combined l.form) (group (combined l.form) l.left l.s) l.s) l.s (length l.s) l.initial.value l.initial.end-2

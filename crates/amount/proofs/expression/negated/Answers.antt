@@ -1,18 +1,11 @@
 use Rattle.amount.proofs.ValueLaws.{negated_laws}
+use Rattle.amount.specs.Expression.{negated_value}
 use borrow.Author.Rules.{rules}
 use Rattle.amount.proofs.expression.negated.Goals as goal
 
-pub enum_known-v : goal.enum_known-v
-enum_known-v c = search (rules, negated_laws)
+pub returns-in_err-v : goal.returns-in_err-v
+unfolding negated_value
+returns-in_err-v c = search (rules, negated_laws, c.in_err-v.was)
 
-pub neg-requires : goal.neg-requires
-neg-requires c = search (rules, negated_laws)
-
-pub enum_known-v-in-Refused-1 : goal.enum_known-v-in-Refused-1
-enum_known-v-in-Refused-1 c = search (rules, negated_laws)
-
-pub returns-in-Known : goal.returns-in-Known
-returns-in-Known c = search (rules, negated_laws)
-
-pub returns-in-Refused : goal.returns-in-Refused
-returns-in-Refused c = search (rules, negated_laws)
+pub returns : goal.returns
+returns c = search (rules, negated_laws, c.in_ok-v.was)

@@ -2,26 +2,14 @@ use Rattle.amount.proofs.ValueLaws.{operated_laws}
 use borrow.Author.Rules.{rules}
 use Rattle.amount.proofs.expression.operated_by.Goals as goal
 
-pub add-requires : goal.add-requires
-add-requires c = search (rules, operated_laws)
-
 pub returns-then-op-eq43 : goal.returns-then-op-eq43
 returns-then-op-eq43 c = search (rules, operated_laws)
-
-pub sub-requires : goal.sub-requires
-sub-requires c = search (rules, operated_laws)
 
 pub returns-then-op-eq45 : goal.returns-then-op-eq45
 returns-then-op-eq45 c = search (rules, operated_laws)
 
-pub mul-requires : goal.mul-requires
-mul-requires c = search (rules, operated_laws)
-
 pub returns-then-op-eq42 : goal.returns-then-op-eq42
 returns-then-op-eq42 c = search (rules, operated_laws)
-
-pub div-requires : goal.div-requires
-div-requires c = search (rules, operated_laws)
 
 pub returns : goal.returns
 returns c = search (rules, operated_laws)

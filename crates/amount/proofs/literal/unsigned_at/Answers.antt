@@ -3,23 +3,8 @@ use borrow.Author.Rules.{rules}
 use Rattle.amount.proofs.literal.unsigned_at.Goals as goal
 use Rattle.amount.proofs.literal.unsigned_at.Goals.{then-end-s+else-s-end-eq46, else-end-s}
 
-pub run-requires : goal.run-requires
-run-requires c = search (rules, unsigned_laws)
-
-pub whole_part-w-requires : goal.whole_part-w-requires
-whole_part-w-requires c = search (rules, unsigned_laws)
-
-pub bounds-s-end : goal.bounds-s-end
-bounds-s-end c = search (rules, unsigned_laws)
-
-pub with_point-requires : goal.with_point-requires
-with_point-requires c = search (rules, unsigned_laws)
-
 pub returns-then-s-end-eq46 : goal.returns-then-s-end-eq46
 returns-then-s-end-eq46 c = search (rules, unsigned_laws)
-
-pub without_point-requires : goal.without_point-requires
-without_point-requires c = search (rules, unsigned_laws)
 
 pub returns : goal.returns
 returns c = elim c.if-end-s.branch [ then-end-s+else-s-end-eq46 w ↦ search (rules, unsigned_laws) | else-end-s w ↦ search (rules, unsigned_laws) ]

@@ -5,21 +5,6 @@ use Rattle.amount.proofs.literal.value.Goals as goal
 pub returns-then-whole-ge1000000000 : goal.returns-then-whole-ge1000000000
 returns-then-whole-ge1000000000 c = search (rules, value_laws)
 
-pub power-f-requires : goal.power-f-requires
-power-f-requires c = search (rules, value_laws)
-
-pub overflow_mul-size : goal.overflow_mul-size
-overflow_mul-size c = search (rules, value_laws)
-
-pub judged-requires : goal.judged-requires
-judged-requires c = search (rules, value_laws)
-
-pub overflow_mul-size-else-tail : goal.overflow_mul-size-else-tail
-overflow_mul-size-else-tail c = search (rules, value_laws)
-
-pub judged-requires-else-tail : goal.judged-requires-else-tail
-judged-requires-else-tail c = search (rules, value_laws)
-
 pub returns-then-tail : goal.returns-then-tail
 returns-then-tail c = search (rules, value_laws)
 

@@ -2,20 +2,8 @@ use Rattle.amount.proofs.LiteralLaws.{answer_laws}
 use borrow.Author.Rules.{rules}
 use Rattle.amount.proofs.literal.with_point.Goals as goal
 
-pub overflow_add-point : goal.overflow_add-point
-overflow_add-point c = search (rules, answer_laws)
-
-pub fraction_part-f-requires : goal.fraction_part-f-requires
-fraction_part-f-requires c = search (rules, answer_laws)
-
-pub peek-requires : goal.peek-requires
-peek-requires c = search (rules, answer_laws)
-
 pub returns-then-peek-eq46 : goal.returns-then-peek-eq46
 returns-then-peek-eq46 c = search (rules, answer_laws)
-
-pub value-requires : goal.value-requires
-value-requires c = search (rules, answer_laws)
 
 pub returns-then-f : goal.returns-then-f
 returns-then-f c = search (rules, answer_laws)

@@ -2,11 +2,11 @@ use Rattle.content.proofs.BalanceLaws.{end_laws}
 use borrow.Author.Rules.{rules}
 use Rattle.content.proofs.content.balance_end.Goals as goal
 
-pub returns-in-To-u : goal.returns-in-To-u
-returns-in-To-u c = search (rules, end_laws)
+pub returns-in_err-c : goal.returns-in_err-c
+returns-in_err-c c = search (rules, end_laws, c.in_err-c.was)
 
-pub returns-in-Miss-u : goal.returns-in-Miss-u
-returns-in-Miss-u c = search (rules, end_laws)
+pub returns-in_err-d : goal.returns-in_err-d
+returns-in_err-d c = search (rules, end_laws, c.in_ok-c.was, c.in_err-d.was)
 
-pub returns-in-Miss : goal.returns-in-Miss
-returns-in-Miss c = search (rules, end_laws)
+pub returns : goal.returns
+returns c = search (rules, end_laws, c.in_ok-c.was, c.in_ok-d.was)

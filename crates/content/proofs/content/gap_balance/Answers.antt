@@ -2,8 +2,8 @@ use Rattle.content.proofs.ContentLaws.{gap_laws}
 use borrow.Author.Rules.{rules}
 use Rattle.content.proofs.content.gap_balance.Goals as goal
 
-pub returns-in-To : goal.returns-in-To
-returns-in-To c = search (rules, gap_laws)
+pub returns-in_err-j : goal.returns-in_err-j
+returns-in_err-j c = search (rules, gap_laws, c.in_err-j.was)
 
-pub returns-in-Miss : goal.returns-in-Miss
-returns-in-Miss c = search (rules, gap_laws)
+pub returns : goal.returns
+returns c = search (rules, gap_laws, c.in_ok-j.was)

@@ -4,6 +4,3 @@ use Rattle.edit.proofs.moves.move_rows.Given as goal
 
 abbrev pub invariant-loop-i : goal.invariant-loop-i
 invariant-loop-i l = MovedTo l.b l.n l.initial.t l.i l.t
-
-abbrev pub decreases-loop-i : goal.decreases-loop-i
-decreases-loop-i l = l.n - l.i

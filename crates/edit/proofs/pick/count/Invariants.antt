@@ -1,8 +1,7 @@
+use Prim.Native.Nat.{◌-◌, ◌*◌}
+use Rattle.row.specs.Row.{width}
 use Rattle.edit.proofs.PickLaws.{Counting}
 use Rattle.edit.proofs.pick.count.Given as goal
 
-abbrev pub invariant-loop-left : goal.invariant-loop-left
-invariant-loop-left l = Counting l.p l.k l.t l.left l.i l.n
-
-abbrev pub decreases-loop-left : goal.decreases-loop-left
-decreases-loop-left l = l.left
+abbrev pub invariant-loop-row : goal.invariant-loop-row
+invariant-loop-row l = Counting l.p l.k l.t (l.k - l.row) (l.row * width) l.n

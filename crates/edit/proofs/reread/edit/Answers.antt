@@ -1,45 +1,36 @@
-use Rattle.edit.proofs.PartsLaws.{sum_three}
-use Rattle.edit.proofs.PlanLaws.{edit_laws, good_ready}
-use borrow.Author.Rules.{rules}
-use mathlib.Core.Path.{refl}
+use Rattle.edit.proofs.PlanLaws.{edit_laws}
 use borrow.Author.Rules.{rules}
 use Rattle.edit.proofs.reread.edit.Goals as goal
 
+pub returns-in_err-allowed-clause-answer : goal.returns-in_err-allowed-clause-answer
+returns-in_err-allowed-clause-answer c = search (rules, edit_laws, c.in_err-allowed.was)
+
+pub returns-in_err-allowed-clause-rows : goal.returns-in_err-allowed-clause-rows
+returns-in_err-allowed-clause-rows c = search (rules, edit_laws, c.in_err-allowed.was)
+
 pub plan_of-p-requires : goal.plan_of-p-requires
-plan_of-p-requires c = search (rules, edit_laws)
+plan_of-p-requires c = search (rules, edit_laws, c.in_ok-allowed.was)
 
 pub count_all-c-requires : goal.count_all-c-requires
-count_all-c-requires c = search (rules, edit_laws)
+count_all-c-requires c = search (rules, edit_laws, c.in_ok-allowed.was)
 
 pub overflow_add-n : goal.overflow_add-n
-overflow_add-n c = search (rules, edit_laws)
+overflow_add-n c = search (rules, edit_laws, c.in_ok-allowed.was)
 
-pub overflow_add-n-then-number-eq0 : goal.overflow_add-n-then-number-eq0
-overflow_add-n-then-number-eq0 c =
-    let a = c.args in
-    let r = c.refused-number in
-    let known = c.count_all-c in
-    sum_three c.plan_of-p.result a.rows.now a.new.now
-    (good_ready a.old.now a.rows.now a.k a.start a.end a.new.now r.result r.ensures c.if-number-eq0.true c.plan_of-p.result c.plan_of-p.ensures)
-    known.result known.ensures (search (rules, c.well_formed.1.0)) _ refl
+pub overflow_add-n-2 : goal.overflow_add-n-2
+overflow_add-n-2 c = search (rules, edit_laws, c.in_ok-allowed.was)
 
 pub returns-then-table-n-clause-answer : goal.returns-then-table-n-clause-answer
-returns-then-table-n-clause-answer c = search (rules, edit_laws)
+returns-then-table-n-clause-answer c = search (rules, edit_laws, c.in_ok-allowed.was)
 
 pub returns-then-table-n-clause-rows : goal.returns-then-table-n-clause-rows
-returns-then-table-n-clause-rows c = search (rules, edit_laws)
+returns-then-table-n-clause-rows c = search (rules, edit_laws, c.in_ok-allowed.was)
 
 pub put_all-requires : goal.put_all-requires
-put_all-requires c = search (rules, edit_laws)
-
-pub returns-then-number-eq0-clause-answer : goal.returns-then-number-eq0-clause-answer
-returns-then-number-eq0-clause-answer c = search (rules, edit_laws)
-
-pub returns-then-number-eq0-clause-rows : goal.returns-then-number-eq0-clause-rows
-returns-then-number-eq0-clause-rows c = search (rules, edit_laws)
+put_all-requires c = search (rules, edit_laws, c.in_ok-allowed.was)
 
 pub returns-clause-answer : goal.returns-clause-answer
-returns-clause-answer c = search (rules, edit_laws)
+returns-clause-answer c = search (rules, edit_laws, c.in_ok-allowed.was)
 
 pub returns-clause-rows : goal.returns-clause-rows
-returns-clause-rows c = search (rules, edit_laws)
+returns-clause-rows c = search (rules, edit_laws, c.in_ok-allowed.was)

@@ -1,6 +1,5 @@
 use Rattle.edit.proofs.FreshLaws.{fresh_laws}
 use borrow.Author.Rules.{rules}
-use borrow.Author.Rules.{rules}
 use Rattle.edit.proofs.reread.put_new.Goals as goal
 
 pub returns : goal.returns

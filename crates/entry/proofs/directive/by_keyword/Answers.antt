@@ -1,27 +1,17 @@
 use Rattle.entry.proofs.FormLaws.{by_keyword_laws}
+use mathlib.Core.Path.{◌≡◌}
+use Rattle.std.specs.Prelude.{Some}
+use Rattle.text.proofs.TestLaws.{tried}
 use borrow.Author.Rules.{rules}
 use Rattle.entry.proofs.directive.by_keyword.Goals as goal
 
-pub keyword_at-w-requires : goal.keyword_at-w-requires
-keyword_at-w-requires c = search (rules, by_keyword_laws)
+pub returns-in_err-kind : goal.returns-in_err-kind
+returns-in_err-kind c = search (rules, by_keyword_laws, c.in_err-kind.was)
 
-pub enum_known-w : goal.enum_known-w
-enum_known-w c = search (rules, by_keyword_laws)
+pub gap_content-requires : goal.gap_content-requires
+gap_content-requires c =
+    let word : c.keyword_at.result ≡ Some (c.in_ok-kind.kind, c.in_ok-kind.e) = search (rules, tried, c.in_ok-kind.was) in
+    search (rules, by_keyword_laws, word)
 
-pub gap_content-r-requires : goal.gap_content-r-requires
-gap_content-r-requires c = search (rules, by_keyword_laws)
-
-pub formed_as-requires : goal.formed_as-requires
-formed_as-requires c = search (rules, by_keyword_laws)
-
-pub enum_told-1 : goal.enum_told-1
-enum_told-1 c = search (rules, by_keyword_laws)
-
-pub shape_of-table : goal.shape_of-table
-shape_of-table c = search (rules, by_keyword_laws)
-
-pub returns-in-Read : goal.returns-in-Read
-returns-in-Read c = search (rules, by_keyword_laws)
-
-pub returns-in-Miss : goal.returns-in-Miss
-returns-in-Miss c = search (rules, by_keyword_laws)
+pub returns : goal.returns
+returns c = search (rules, by_keyword_laws, c.in_ok-kind.was)

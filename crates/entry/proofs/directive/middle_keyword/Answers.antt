@@ -2,32 +2,11 @@ use Rattle.entry.proofs.KeywordLaws.{middle_laws}
 use borrow.Author.Rules.{rules}
 use Rattle.entry.proofs.directive.middle_keyword.Goals as goal
 
-pub word-a-requires : goal.word-a-requires
-word-a-requires c = search (rules, middle_laws)
+pub returns-in-Some : goal.returns-in-Some
+returns-in-Some c = search (rules, middle_laws, c.in-Some.ensures)
 
-pub enum_known-a : goal.enum_known-a
-enum_known-a c = search (rules, middle_laws)
+pub returns-in-Some-word : goal.returns-in-Some-word
+returns-in-Some-word c = search (rules, middle_laws, c.in-Some-word.ensures)
 
-pub enum_told-1 : goal.enum_told-1
-enum_told-1 c = search (rules, middle_laws)
-
-pub word-b-requires : goal.word-b-requires
-word-b-requires c = search (rules, middle_laws)
-
-pub enum_known-b : goal.enum_known-b
-enum_known-b c = search (rules, middle_laws)
-
-pub enum_told-in-Miss-b : goal.enum_told-in-Miss-b
-enum_told-in-Miss-b c = search (rules, middle_laws)
-
-pub late_keyword-requires : goal.late_keyword-requires
-late_keyword-requires c = search (rules, middle_laws)
-
-pub returns-in-To : goal.returns-in-To
-returns-in-To c = search (rules, middle_laws)
-
-pub returns-in-To-b : goal.returns-in-To-b
-returns-in-To-b c = search (rules, middle_laws)
-
-pub returns-in-Miss-b : goal.returns-in-Miss-b
-returns-in-Miss-b c = search (rules, middle_laws)
+pub returns : goal.returns
+returns c = search (rules, middle_laws)

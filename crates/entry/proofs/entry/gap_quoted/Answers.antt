@@ -1,39 +1,24 @@
 use Rattle.entry.proofs.UndatedLaws.{quoted_laws}
+use mathlib.Core.Path.{◌≡◌}
+use Rattle.std.specs.Prelude.{Some}
+use Rattle.text.proofs.TestLaws.{tried}
 use borrow.Author.Rules.{rules}
 use Rattle.entry.proofs.entry.gap_quoted.Goals as goal
 
-pub gap-g-requires : goal.gap-g-requires
-gap-g-requires c = search (rules, quoted_laws)
+pub returns-in_err-j : goal.returns-in_err-j
+returns-in_err-j c = search (rules, quoted_laws, c.in_err-j.was)
 
-pub enum_known-g : goal.enum_known-g
-enum_known-g c = search (rules, quoted_laws)
-
-pub string-x-requires : goal.string-x-requires
-string-x-requires c = search (rules, quoted_laws)
-
-pub enum_known-x : goal.enum_known-x
-enum_known-x c = search (rules, quoted_laws)
+pub returns-in_err-e : goal.returns-in_err-e
+returns-in_err-e c = search (rules, quoted_laws, c.in_ok-j.was, c.in_err-e.was)
 
 pub overflow_add-j : goal.overflow_add-j
-overflow_add-j c = search (rules, quoted_laws)
+overflow_add-j c = search (rules, quoted_laws, c.in_ok-j.was, c.in_ok-e.was)
 
 pub overflow_sub-e : goal.overflow_sub-e
 overflow_sub-e c = search (rules, quoted_laws)
 
-pub named-requires : goal.named-requires
-named-requires c = search (rules, quoted_laws)
-
-pub enum_told-1 : goal.enum_told-1
-enum_told-1 c = search (rules, quoted_laws)
-
-pub enum_told-in-Miss : goal.enum_told-in-Miss
-enum_told-in-Miss c = search (rules, quoted_laws)
-
-pub returns-in-To-x : goal.returns-in-To-x
-returns-in-To-x c = search (rules, quoted_laws)
-
-pub returns-in-Miss-x : goal.returns-in-Miss-x
-returns-in-Miss-x c = search (rules, quoted_laws)
-
-pub returns-in-Miss : goal.returns-in-Miss
-returns-in-Miss c = search (rules, quoted_laws)
+pub returns : goal.returns
+returns c =
+    let gap : c.gap.result ≡ Some c.in_ok-j.j = search (rules, tried, c.in_ok-j.was) in
+    let string : c.string.result ≡ Some c.in_ok-e.e = search (rules, tried, c.in_ok-e.was) in
+    search (rules, quoted_laws, gap, string)

@@ -2,32 +2,8 @@ use Rattle.entry.proofs.UndatedLaws.{word_laws}
 use borrow.Author.Rules.{rules}
 use Rattle.entry.proofs.entry.include_form.Goals as goal
 
-pub word-w-requires : goal.word-w-requires
-word-w-requires c = search (rules, word_laws)
+pub returns-in-Some : goal.returns-in-Some
+returns-in-Some c = search (rules, word_laws, c.in-Some.ensures)
 
-pub enum_known-w : goal.enum_known-w
-enum_known-w c = search (rules, word_laws)
-
-pub include_at-r-requires : goal.include_at-r-requires
-include_at-r-requires c = search (rules, word_laws)
-
-pub formed_as-requires : goal.formed_as-requires
-formed_as-requires c = search (rules, word_laws)
-
-pub enum_told-1 : goal.enum_told-1
-enum_told-1 c = search (rules, word_laws)
-
-pub pushtag_at-requires : goal.pushtag_at-requires
-pushtag_at-requires c = search (rules, word_laws)
-
-pub shape_of-table-in-To : goal.shape_of-table-in-To
-shape_of-table-in-To c = search (rules, word_laws)
-
-pub returns-in-To : goal.returns-in-To
-returns-in-To c = search (rules, word_laws)
-
-pub shape_of-table-in-Miss : goal.shape_of-table-in-Miss
-shape_of-table-in-Miss c = search (rules, word_laws)
-
-pub returns-in-Miss : goal.returns-in-Miss
-returns-in-Miss c = search (rules, word_laws)
+pub returns-in-None : goal.returns-in-None
+returns-in-None c = search (rules, word_laws, c.in-None.ensures)

@@ -1,45 +1,22 @@
 use Rattle.entry.proofs.UndatedLaws.{option_end_laws}
+use mathlib.Core.Path.{◌≡◌}
+use Rattle.std.specs.Prelude.{None, Err}
+use Rattle.text.specs.declared.stop.Stop.{Stop}
+use Rattle.text.proofs.TestLaws.{tried}
 use borrow.Author.Rules.{rules}
 use Rattle.entry.proofs.entry.option_end.Goals as goal
 
-pub gap_quoted-b-requires : goal.gap_quoted-b-requires
-gap_quoted-b-requires c = search (rules, option_end_laws)
+pub returns-in_err-f : goal.returns-in_err-f
+returns-in_err-f c = search (rules, option_end_laws, c.in_err-f.was)
 
-pub enum_known-b : goal.enum_known-b
-enum_known-b c = search (rules, option_end_laws)
+pub returns-in_err-g : goal.returns-in_err-g
+returns-in_err-g c =
+    let no_end : c.line_end.result ≡ None = search (rules, tried, c.in_err-g.was) in
+    let stopped : c.from_residual-in_err-g.result ≡ Err Stop.Miss = search (rules, tried, c.in_err-g.was) in
+    rw stopped (search (rules, option_end_laws, c.in_ok-f.was, no_end))
 
-pub line_end-l-requires : goal.line_end-l-requires
-line_end-l-requires c = search (rules, option_end_laws)
+pub emit-requires : goal.emit-requires
+emit-requires c = search (rules, option_end_laws)
 
-pub enum_known-l : goal.enum_known-l
-enum_known-l c = search (rules, option_end_laws)
-
-pub emit-o-requires : goal.emit-o-requires
-emit-o-requires c = search (rules, option_end_laws)
-
-pub emit-p-requires : goal.emit-p-requires
-emit-p-requires c = search (rules, option_end_laws)
-
-pub enum_told-1 : goal.enum_told-1
-enum_told-1 c = search (rules, option_end_laws)
-
-pub enum_told-in-Miss : goal.enum_told-in-Miss
-enum_told-in-Miss c = search (rules, option_end_laws)
-
-pub enum_known-b-in-Hard-1 : goal.enum_known-b-in-Hard-1
-enum_known-b-in-Hard-1 c = search (rules, option_end_laws)
-
-pub shape_of-table : goal.shape_of-table
-shape_of-table c = search (rules, option_end_laws)
-
-pub returns-in-To : goal.returns-in-To
-returns-in-To c = search (rules, option_end_laws)
-
-pub returns-in-Miss-l : goal.returns-in-Miss-l
-returns-in-Miss-l c = search (rules, option_end_laws)
-
-pub returns-in-Miss : goal.returns-in-Miss
-returns-in-Miss c = search (rules, option_end_laws)
-
-pub returns-in-Hard : goal.returns-in-Hard
-returns-in-Hard c = search (rules, option_end_laws)
+pub returns : goal.returns
+returns c = search (rules, option_end_laws)

@@ -2,26 +2,8 @@ use Rattle.entry.proofs.UndatedLaws.{word_laws}
 use borrow.Author.Rules.{rules}
 use Rattle.entry.proofs.entry.poptag_at.Goals as goal
 
-pub word-w-requires : goal.word-w-requires
-word-w-requires c = search (rules, word_laws)
+pub returns-in_err-e : goal.returns-in_err-e
+returns-in_err-e c = search (rules, word_laws, c.in_err-e.was)
 
-pub enum_known-w : goal.enum_known-w
-enum_known-w c = search (rules, word_laws)
-
-pub tagged_at-r-requires : goal.tagged_at-r-requires
-tagged_at-r-requires c = search (rules, word_laws)
-
-pub formed_as-requires : goal.formed_as-requires
-formed_as-requires c = search (rules, word_laws)
-
-pub enum_told-1 : goal.enum_told-1
-enum_told-1 c = search (rules, word_laws)
-
-pub shape_of-table : goal.shape_of-table
-shape_of-table c = search (rules, word_laws)
-
-pub returns-in-To : goal.returns-in-To
-returns-in-To c = search (rules, word_laws)
-
-pub returns-in-Miss : goal.returns-in-Miss
-returns-in-Miss c = search (rules, word_laws)
+pub returns : goal.returns
+returns c = search (rules, word_laws, c.in_ok-e.was)

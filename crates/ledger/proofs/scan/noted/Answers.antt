@@ -2,15 +2,6 @@ use Rattle.ledger.proofs.StrictScan.{noted_laws}
 use borrow.Author.Rules.{rules}
 use Rattle.ledger.proofs.scan.noted.Goals as goal
 
-pub enum_told-1 : goal.enum_told-1
-enum_told-1 c = search (rules, noted_laws)
-
-pub enum_told-in-Strict : goal.enum_told-in-Strict
-enum_told-in-Strict c = search (rules, noted_laws)
-
-pub against-requires : goal.against-requires
-against-requires c = search (rules, noted_laws)
-
 pub first_of-requires : goal.first_of-requires
 first_of-requires c = search (rules, noted_laws)
 

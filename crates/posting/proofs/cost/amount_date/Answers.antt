@@ -1,48 +1,21 @@
 use Rattle.posting.proofs.LotLaws.{amount_date_laws}
+use mathlib.Core.Path.{◌≡◌}
+use Rattle.std.specs.Prelude.{Some}
+use Rattle.text.proofs.TestLaws.{tried}
 use borrow.Author.Rules.{rules}
 use Rattle.posting.proofs.cost.amount_date.Goals as goal
 
-pub enum_known-a : goal.enum_known-a
-enum_known-a c = search (rules, amount_date_laws)
+pub returns-in_err-e : goal.returns-in_err-e
+returns-in_err-e c = search (rules, amount_date_laws, c.in_err-e.was)
 
-pub comma_at-c-requires : goal.comma_at-c-requires
-comma_at-c-requires c = search (rules, amount_date_laws)
+pub returns-in_err-f : goal.returns-in_err-f
+returns-in_err-f c = search (rules, amount_date_laws, c.in_ok-e.was, c.in_err-f.was)
 
-pub enum_known-c : goal.enum_known-c
-enum_known-c c = search (rules, amount_date_laws)
+pub returns-in_err-g : goal.returns-in_err-g
+returns-in_err-g c = search (rules, amount_date_laws, c.in_ok-e.was, c.in_ok-f.was, c.in_err-g.was)
 
-pub date-d-requires : goal.date-d-requires
-date-d-requires c = search (rules, amount_date_laws)
-
-pub enum_known-d : goal.enum_known-d
-enum_known-d c = search (rules, amount_date_laws)
-
-pub wide_date-requires : goal.wide_date-requires
-wide_date-requires c = search (rules, amount_date_laws)
-
-pub enum_told-1 : goal.enum_told-1
-enum_told-1 c = search (rules, amount_date_laws)
-
-pub enum_told-in-Miss-c : goal.enum_told-in-Miss-c
-enum_told-in-Miss-c c = search (rules, amount_date_laws)
-
-pub enum_told-in-Miss : goal.enum_told-in-Miss
-enum_told-in-Miss c = search (rules, amount_date_laws)
-
-pub enum_known-a-in-Hard-1 : goal.enum_known-a-in-Hard-1
-enum_known-a-in-Hard-1 c = search (rules, amount_date_laws)
-
-pub returns-in-On : goal.returns-in-On
-returns-in-On c = search (rules, amount_date_laws)
-
-pub returns-in-Miss-d : goal.returns-in-Miss-d
-returns-in-Miss-d c = search (rules, amount_date_laws)
-
-pub returns-in-Miss-c : goal.returns-in-Miss-c
-returns-in-Miss-c c = search (rules, amount_date_laws)
-
-pub returns-in-Miss : goal.returns-in-Miss
-returns-in-Miss c = search (rules, amount_date_laws)
-
-pub returns-in-Hard : goal.returns-in-Hard
-returns-in-Hard c = search (rules, amount_date_laws)
+pub returns : goal.returns
+returns c =
+    let found : c.date.result ≡ Some (c.in_ok-g.g, c.in_ok-g.y) = search (rules, tried, c.in_ok-g.was) in
+    let comma : c.comma_at.result ≡ Some c.in_ok-f.f = search (rules, tried, c.in_ok-f.was) in
+    search (rules, amount_date_laws, c.in_ok-e.was, found, comma)

@@ -1,15 +1,10 @@
-use Rattle.posting.proofs.MetaWrites.{metadata_laws}
+use Rattle.row.proofs.ManyLaws.{runs_halt}
+use Rattle.posting.proofs.MetaWrites.{meta_stepping, metadata_laws}
 use borrow.Author.Rules.{rules}
 use Rattle.posting.proofs.metadata.metadata_at.Goals as goal
 
 pub loop-i-init : goal.loop-i-init
 loop-i-init c = search (rules, metadata_laws)
-
-pub meta_step-x-requires : goal.meta_step-x-requires
-meta_step-x-requires c = search (rules, metadata_laws)
-
-pub enum_known-x : goal.enum_known-x
-enum_known-x c = search (rules, metadata_laws)
 
 pub loop-i-smaller : goal.loop-i-smaller
 loop-i-smaller c = search (rules, metadata_laws)
@@ -17,26 +12,11 @@ loop-i-smaller c = search (rules, metadata_laws)
 pub loop-i-preserved : goal.loop-i-preserved
 loop-i-preserved c = search (rules, metadata_laws)
 
-pub enum_told-1 : goal.enum_told-1
-enum_told-1 c = search (rules, metadata_laws)
+pub returns-in-Err-Miss : goal.returns-in-Err-Miss
+returns-in-Err-Miss c = search (rules, metadata_laws, c.in-Err-Miss.ensures)
 
-pub shape_of-table-in-Miss : goal.shape_of-table-in-Miss
-shape_of-table-in-Miss c = search (rules, metadata_laws)
-
-pub returns-in-Miss : goal.returns-in-Miss
-returns-in-Miss c = search (rules, metadata_laws)
-
-pub enum_known-x-in-Hard-1 : goal.enum_known-x-in-Hard-1
-enum_known-x-in-Hard-1 c = search (rules, metadata_laws)
-
-pub shape_of-table-in-Hard : goal.shape_of-table-in-Hard
-shape_of-table-in-Hard c = search (rules, metadata_laws)
-
-pub returns-in-Hard : goal.returns-in-Hard
-returns-in-Hard c = search (rules, metadata_laws)
-
-pub shape_of-table : goal.shape_of-table
-shape_of-table c = search (rules, metadata_laws)
+pub returns-in-Err : goal.returns-in-Err
+returns-in-Err c = let halt = runs_halt _ _ _ _ _ _ _ _ _ c.loop-i.invariant (meta_stepping _) _ _ c.meta_step.ensures in search (rules, halt)
 
 pub returns : goal.returns
 returns c = search (rules, metadata_laws)

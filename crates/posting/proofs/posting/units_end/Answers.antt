@@ -1,48 +1,18 @@
 use Rattle.posting.proofs.PostWrites.{ended_laws}
+use mathlib.Core.Path.{◌≡◌}
+use Rattle.std.specs.Prelude.{Err}
+use Rattle.text.specs.declared.stop.Stop.{Stop}
+use Rattle.text.proofs.TestLaws.{tried}
 use borrow.Author.Rules.{rules}
 use Rattle.posting.proofs.posting.units_end.Goals as goal
 
-pub units_at-x-requires : goal.units_at-x-requires
-units_at-x-requires c = search (rules, ended_laws)
+pub returns-in_err-e : goal.returns-in_err-e
+returns-in_err-e c = search (rules, ended_laws, c.in_err-e.was)
 
-pub enum_known-x : goal.enum_known-x
-enum_known-x c = search (rules, ended_laws)
+pub returns-in_err-f : goal.returns-in_err-f
+returns-in_err-f c =
+    let missed : c.from_residual-in_err-f.result ≡ Err Stop.Miss = search (rules, tried, c.in_err-f.was) in
+    rw missed (search (rules, ended_laws, c.in_ok-e.was, c.in_err-f.was))
 
-pub line_end-l-requires : goal.line_end-l-requires
-line_end-l-requires c = search (rules, ended_laws)
-
-pub enum_known-l : goal.enum_known-l
-enum_known-l c = search (rules, ended_laws)
-
-pub enum_told-1 : goal.enum_told-1
-enum_told-1 c = search (rules, ended_laws)
-
-pub enum_told-in-Miss : goal.enum_told-in-Miss
-enum_told-in-Miss c = search (rules, ended_laws)
-
-pub enum_known-x-in-Hard-1 : goal.enum_known-x-in-Hard-1
-enum_known-x-in-Hard-1 c = search (rules, ended_laws)
-
-pub shape_of-table-in-To-l : goal.shape_of-table-in-To-l
-shape_of-table-in-To-l c = search (rules, ended_laws)
-
-pub returns-in-To-l : goal.returns-in-To-l
-returns-in-To-l c = search (rules, ended_laws)
-
-pub shape_of-table-in-Miss-l : goal.shape_of-table-in-Miss-l
-shape_of-table-in-Miss-l c = search (rules, ended_laws)
-
-pub returns-in-Miss-l : goal.returns-in-Miss-l
-returns-in-Miss-l c = search (rules, ended_laws)
-
-pub shape_of-table-in-Miss : goal.shape_of-table-in-Miss
-shape_of-table-in-Miss c = search (rules, ended_laws)
-
-pub returns-in-Miss : goal.returns-in-Miss
-returns-in-Miss c = search (rules, ended_laws)
-
-pub shape_of-table-in-Hard : goal.shape_of-table-in-Hard
-shape_of-table-in-Hard c = search (rules, ended_laws)
-
-pub returns-in-Hard : goal.returns-in-Hard
-returns-in-Hard c = search (rules, ended_laws)
+pub returns : goal.returns
+returns c = search (rules, ended_laws, c.in_ok-e.was, c.in_ok-f.was)

@@ -1,9 +1,11 @@
+use Rattle.std.specs.Prelude.{Some}
+use Rattle.replay.specs.Replies.{outcome}
 use Rattle.replay.proofs.VerdictLaws.{verdict_laws}
 use borrow.Author.Rules.{rules}
 use Rattle.replay.proofs.compare.judged.Goals as goal
 
-pub returns-in-Answered : goal.returns-in-Answered
-returns-in-Answered c = search (rules, verdict_laws)
+pub returns-in_err-r : goal.returns-in_err-r
+returns-in_err-r c = search (rules, verdict_laws, c.in_err-r.was)
 
-pub returns-in-Unknown : goal.returns-in-Unknown
-returns-in-Unknown c = search (rules, verdict_laws)
+pub returns : goal.returns
+returns c = search (rules, verdict_laws, c.in_ok-r.was)

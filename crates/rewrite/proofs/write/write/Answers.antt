@@ -2,14 +2,17 @@ use Rattle.rewrite.proofs.WriteLaws.{write_laws}
 use borrow.Author.Rules.{rules}
 use Rattle.rewrite.proofs.write.write.Goals as goal
 
-pub returns-then-count-eq0 : goal.returns-then-count-eq0
-returns-then-count-eq0 c = search (rules, write_laws)
+pub overflow_mul-result : goal.overflow_mul-result
+overflow_mul-result c = search (rules, write_laws, c.in-Err.ensures)
 
-pub overflow_mul-count : goal.overflow_mul-count
-overflow_mul-count c = search (rules, write_laws)
+pub returns-in-Err : goal.returns-in-Err
+returns-in-Err c = search (rules, write_laws)
 
-pub poured-r-requires : goal.poured-r-requires
-poured-r-requires c = search (rules, write_laws)
+pub returns-in-Err-2 : goal.returns-in-Err-2
+returns-in-Err-2 c = search (rules, write_laws, c.in-Err.ensures)
+
+pub poured-poured-requires : goal.poured-poured-requires
+poured-poured-requires c = search (rules, write_laws, c.in-Ok.ensures)
 
 pub overflow_mul-n : goal.overflow_mul-n
 overflow_mul-n c = search (rules, write_laws)
@@ -17,8 +20,5 @@ overflow_mul-n c = search (rules, write_laws)
 pub clear-requires : goal.clear-requires
 clear-requires c = search (rules, write_laws)
 
-pub returns-else-count-eq0 : goal.returns-else-count-eq0
-returns-else-count-eq0 c = search (rules, write_laws)
-
-pub returns-in-Rows : goal.returns-in-Rows
-returns-in-Rows c = search (rules, write_laws)
+pub returns : goal.returns
+returns c = search (rules, write_laws)

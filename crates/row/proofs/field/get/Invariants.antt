@@ -4,8 +4,5 @@ use lib.ListN.{take, drop}
 use Rattle.row.specs.Field.{un}
 use Rattle.row.proofs.field.get.Given as goal
 
-abbrev pub invariant-loop-left : goal.invariant-loop-left
-invariant-loop-left l = (l.x ≡ un (take (l.width - l.left) (drop (l.at + l.left) l.t))) × (l.left ≤ l.width)
-
-abbrev pub decreases-loop-left : goal.decreases-loop-left
-decreases-loop-left l = l.left
+abbrev pub invariant-loop-i : goal.invariant-loop-i
+invariant-loop-i l = (l.x ≡ un (take (l.width - l.i) (drop (l.at + l.i) l.t))) × (l.i ≤ l.width)

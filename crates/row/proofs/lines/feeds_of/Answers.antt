@@ -1,36 +1,15 @@
-use Rattle.row.proofs.LineLaws.{parting}
+use Rattle.row.proofs.LineLaws.{part_on, part_room, part_last}
+use mathlib.Core.Path.{◌∙◌}
 use borrow.Author.Rules.{rules}
 use Rattle.row.proofs.lines.feeds_of.Goals as goal
 
-pub loop-i-init : goal.loop-i-init
-loop-i-init c = search (rules, parting)
-
-pub part_end-end-requires : goal.part_end-end-requires
-part_end-end-requires c = search (rules, parting)
-
-pub slice_bounds-few_feeds-count : goal.slice_bounds-few_feeds-count
-slice_bounds-few_feeds-count c = search (rules, parting)
-
-pub slice_bounds-few_feeds-start : goal.slice_bounds-few_feeds-start
-slice_bounds-few_feeds-start c = search (rules, parting)
-
-pub slice_bounds-few_feeds-end : goal.slice_bounds-few_feeds-end
-slice_bounds-few_feeds-end c = search (rules, parting)
-
-pub few_feeds-requires : goal.few_feeds-requires
-few_feeds-requires c = search (rules, parting)
-
-pub wide-n-requires : goal.wide-n-requires
-wide-n-requires c = search (rules, parting)
-
 pub overflow_add-n : goal.overflow_add-n
-overflow_add-n c = search (rules, parting)
+overflow_add-n c = part_room _ _ _ c.loop-part.invariant.3 _ _ _ c.in-Some.ensures.steps.1.0 (c.from-n.ensures ∙ c.few_feeds.ensures) (search rules)
 
-pub loop-i-smaller : goal.loop-i-smaller
-loop-i-smaller c = search (rules, parting)
-
-pub loop-i-preserved : goal.loop-i-preserved
-loop-i-preserved c = search (rules, parting)
+pub loop-part-preserved : goal.loop-part-preserved
+loop-part-preserved c =
+    let steps = c.in-Some.ensures.steps in
+    (search rules, tt, search rules, part_on _ _ _ c.loop-part.invariant.3 _ _ _ steps.1.0 (c.from-n.ensures ∙ c.few_feeds.ensures))
 
 pub returns : goal.returns
-returns c = search (rules, parting)
+returns c = part_last _ _ _ c.loop-part.invariant.3 c.in-None.ensures.steps.1.0

@@ -1,11 +1,9 @@
-use Rattle.row.specs.Row.{feeds}
-use lib.ListN.{length, take}
+use Prim.Native.Nat.{◌+◌}
 use mathlib.Core.Path.{◌≡◌}
-use Prim.Native.Nat.{◌-◌, ◌≤◌}
+use Rattle.std.specs.Slice.Iter.{chunks_rest, chunks_size}
+use Rattle.row.specs.Row.{feeds}
 use Rattle.row.proofs.lines.feeds_of.Given as goal
 
-abbrev pub invariant-loop-i : goal.invariant-loop-i
-invariant-loop-i l = (l.n ≡ feeds (take l.i l.s)) × (l.i ≤ length l.s)
-
-abbrev pub decreases-loop-i : goal.decreases-loop-i
-decreases-loop-i l = length l.s - l.i
+abbrev pub invariant-loop-part : goal.invariant-loop-part
+invariant-loop-part l = goal.iterator-loop-part.can_next l.part-iterator × goal.iterator-loop-part.is_finite l.part-iterator × (chunks_size l.part-iterator ≡ 240)
+    × (l.n + feeds (chunks_rest l.part-iterator) ≡ feeds l.s)

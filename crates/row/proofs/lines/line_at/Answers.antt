@@ -3,12 +3,6 @@ use Rattle.row.proofs.LineLaws.{line_laws, line_below}
 use borrow.Author.Rules.{rules}
 use Rattle.row.proofs.lines.line_at.Goals as goal
 
-pub loop-l-init : goal.loop-l-init
-loop-l-init c = search (rules, line_laws)
-
-pub overflow_add-l : goal.overflow_add-l
-overflow_add-l c = search (rules, line_laws)
-
 pub overflow_add-l-then-l-s : goal.overflow_add-l-then-l-s
 overflow_add-l-then-l-s c =
     let l = c.loop-l.l in
@@ -20,9 +14,6 @@ line_from-l-requires c = (search rules, search (rules, line_laws))
 
 pub loop-l-smaller : goal.loop-l-smaller
 loop-l-smaller c = search (rules, line_laws)
-
-pub loop-l-preserved : goal.loop-l-preserved
-loop-l-preserved c = search (rules, line_laws)
 
 pub returns-else-l-s : goal.returns-else-l-s
 returns-else-l-s c = search (rules, line_laws)

@@ -5,17 +5,8 @@ use Rattle.text.proofs.date.date.Goals as goal
 pub returns-then-s-lt10 : goal.returns-then-s-lt10
 returns-then-s-lt10 c = search (rules, date_laws)
 
-pub overflow_sub-s : goal.overflow_sub-s
-overflow_sub-s c = search (rules, date_laws)
-
 pub returns-then-s-at : goal.returns-then-s-at
 returns-then-s-at c = search (rules, date_laws)
-
-pub shape-requires : goal.shape-requires
-shape-requires c = search (rules, date_laws)
-
-pub date_in-requires : goal.date_in-requires
-date_in-requires c = search (rules, date_laws)
 
 pub returns-then-shape : goal.returns-then-shape
 returns-then-shape c = search (rules, date_laws)

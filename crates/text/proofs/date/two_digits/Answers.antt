@@ -5,7 +5,3 @@ use Rattle.text.proofs.date.two_digits.Goals as goal
 pub returns-clause-value : goal.returns-clause-value
 unfolding two
 returns-clause-value c = search rules
-
-pub returns-clause-upper_bound : goal.returns-clause-upper_bound
-unfolding two
-returns-clause-upper_bound c = search rules

@@ -3,15 +3,6 @@ use Rattle.text.specs.Lines.{comment_end}
 use borrow.Author.Rules.{rules}
 use Rattle.text.proofs.line.comment_end.Goals as goal
 
-pub bounds-s-at : goal.bounds-s-at
-bounds-s-at c = search (rules, by_tests)
-
-pub overflow_add-at : goal.overflow_add-at
-overflow_add-at c = search (rules, by_tests)
-
-pub run-requires : goal.run-requires
-run-requires c = search (rules, by_tests)
-
 pub returns-then-s-at-eq59 : goal.returns-then-s-at-eq59
 unfolding comment_end
 returns-then-s-at-eq59 c = search (rules, by_tests)

@@ -3,9 +3,6 @@ use Rattle.text.specs.Lines.{empty_at}
 use borrow.Author.Rules.{rules}
 use Rattle.text.proofs.line.empty_line.Goals as goal
 
-pub line_end-requires : goal.line_end-requires
-line_end-requires c = search (rules, by_tests)
-
 pub returns-then-at-s : goal.returns-then-at-s
 unfolding empty_at
 returns-then-at-s c = search (rules, by_tests)

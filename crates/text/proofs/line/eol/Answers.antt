@@ -2,20 +2,11 @@ use Rattle.text.proofs.LineLaws.{eol_laws}
 use borrow.Author.Rules.{rules}
 use Rattle.text.proofs.line.eol.Goals as goal
 
-pub bounds-s-at : goal.bounds-s-at
-bounds-s-at c = search (rules, eol_laws)
-
 pub overflow_add-result : goal.overflow_add-result
 overflow_add-result c = search (rules, eol_laws)
 
 pub returns-then-b-eq10 : goal.returns-then-b-eq10
 returns-then-b-eq10 c = search (rules, eol_laws)
-
-pub overflow_add-at : goal.overflow_add-at
-overflow_add-at c = search (rules, eol_laws)
-
-pub peek-n-requires : goal.peek-n-requires
-peek-n-requires c = search (rules, eol_laws)
 
 pub overflow_add-result-then-n-eq10 : goal.overflow_add-result-then-n-eq10
 overflow_add-result-then-n-eq10 c = search (rules, eol_laws)

@@ -2,9 +2,6 @@ use Rattle.text.proofs.LineLaws.{gap_laws}
 use borrow.Author.Rules.{rules}
 use Rattle.text.proofs.line.gap.Goals as goal
 
-pub run-e-requires : goal.run-e-requires
-run-e-requires c = search (rules, gap_laws)
-
 pub returns-then-at-e : goal.returns-then-at-e
 returns-then-at-e c = search (rules, gap_laws)
 

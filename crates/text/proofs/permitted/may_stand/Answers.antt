@@ -2,9 +2,6 @@ use Rattle.text.proofs.PermittedLaws.{stand_laws}
 use borrow.Author.Rules.{rules}
 use Rattle.text.proofs.permitted.may_stand.Goals as goal
 
-pub bounds-s-at : goal.bounds-s-at
-bounds-s-at c = search (rules, stand_laws)
-
 pub returns-then-b-ge32 : goal.returns-then-b-ge32
 returns-then-b-ge32 c = search (rules, stand_laws)
 
@@ -13,12 +10,6 @@ returns-then-b-eq10 c = search (rules, stand_laws)
 
 pub returns-then-b-eq9 : goal.returns-then-b-eq9
 returns-then-b-eq9 c = search (rules, stand_laws)
-
-pub overflow_add-at : goal.overflow_add-at
-overflow_add-at c = search (rules, stand_laws)
-
-pub peek-requires : goal.peek-requires
-peek-requires c = search (rules, stand_laws)
 
 pub returns-then-b-eq13 : goal.returns-then-b-eq13
 returns-then-b-eq13 c = search (rules, stand_laws)

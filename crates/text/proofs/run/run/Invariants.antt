@@ -1,12 +1,7 @@
-use lib.ListN.{length}
-use Prim.Native.Nat.{◌-◌, ◌≤◌}
 use mathlib.Core.Path.{◌≡◌}
 use Rattle.text.specs.Run.{run_to}
 use Rattle.text.specs.steps.Classes.{in_class}
 use Rattle.text.proofs.run.run.Given as goal
 
 abbrev pub invariant-loop-i : goal.invariant-loop-i
-invariant-loop-i l = (run_to (in_class l.k) l.s l.at ≡ run_to (in_class l.k) l.s l.i) × (l.at ≤ l.i)
-
-abbrev pub decreases-loop-i : goal.decreases-loop-i
-decreases-loop-i l = length l.s - l.i
+invariant-loop-i l = run_to (in_class l.k) l.s l.at ≡ run_to (in_class l.k) l.s l.i

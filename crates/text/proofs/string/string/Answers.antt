@@ -3,15 +3,6 @@ use Rattle.text.specs.Strings.{string_at}
 use borrow.Author.Rules.{rules}
 use Rattle.text.proofs.string.string.Goals as goal
 
-pub bounds-s-at : goal.bounds-s-at
-bounds-s-at c = search (rules, by_tests)
-
-pub overflow_add-at : goal.overflow_add-at
-overflow_add-at c = search (rules, by_tests)
-
-pub string_rest-requires : goal.string_rest-requires
-string_rest-requires c = search (rules, by_tests)
-
 pub returns-then-s-at-eq34 : goal.returns-then-s-at-eq34
 unfolding string_at
 returns-then-s-at-eq34 c = search (rules, by_tests)

@@ -2,15 +2,6 @@ use Rattle.text.proofs.TagLaws.{marked_laws}
 use borrow.Author.Rules.{rules}
 use Rattle.text.proofs.tag.link.Goals as goal
 
-pub bounds-s-at : goal.bounds-s-at
-bounds-s-at c = search (rules, marked_laws)
-
-pub overflow_add-at : goal.overflow_add-at
-overflow_add-at c = search (rules, marked_laws)
-
-pub link_run-requires : goal.link_run-requires
-link_run-requires c = search (rules, marked_laws)
-
 pub returns-then-s-at-eq94 : goal.returns-then-s-at-eq94
 returns-then-s-at-eq94 c = search (rules, marked_laws)
 

@@ -2,15 +2,6 @@ use Rattle.text.proofs.TagLaws.{marked_laws}
 use borrow.Author.Rules.{rules}
 use Rattle.text.proofs.tag.tag.Goals as goal
 
-pub bounds-s-at : goal.bounds-s-at
-bounds-s-at c = search (rules, marked_laws)
-
-pub overflow_add-at : goal.overflow_add-at
-overflow_add-at c = search (rules, marked_laws)
-
-pub tag_run-requires : goal.tag_run-requires
-tag_run-requires c = search (rules, marked_laws)
-
 pub returns-then-s-at-eq35 : goal.returns-then-s-at-eq35
 returns-then-s-at-eq35 c = search (rules, marked_laws)
 

@@ -2,9 +2,6 @@ use Rattle.text.proofs.WindowLaws.{class_run_laws}
 use borrow.Author.Rules.{rules}
 use Rattle.text.proofs.window.link_run.Goals as goal
 
-pub run_of-requires : goal.run_of-requires
-run_of-requires c = search (rules, class_run_laws)
-
 pub returns-clause-value : goal.returns-clause-value
 returns-clause-value c = search (rules, class_run_laws)
 

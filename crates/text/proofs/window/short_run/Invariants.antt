@@ -1,5 +1,3 @@
-use lib.ListN.{length}
-use Prim.Native.Nat.{◌-◌}
 use mathlib.Core.Path.{◌≡◌}
 use Rattle.text.specs.Run.{run_to}
 use Rattle.text.specs.steps.Windows.{is_among}
@@ -7,6 +5,3 @@ use Rattle.text.proofs.window.short_run.Given as goal
 
 abbrev pub invariant-loop-i : goal.invariant-loop-i
 invariant-loop-i l = run_to (is_among l.small l.x l.y) l.s l.at ≡ run_to (is_among l.small l.x l.y) l.s l.i
-
-abbrev pub decreases-loop-i : goal.decreases-loop-i
-decreases-loop-i l = length l.s - l.i

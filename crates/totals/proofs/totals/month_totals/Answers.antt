@@ -5,8 +5,5 @@ use Rattle.totals.proofs.totals.month_totals.Goals as goal
 pub returns-then-work-used : goal.returns-then-work-used
 returns-then-work-used c = search (rules, month_done)
 
-pub returns-then-spare-used : goal.returns-then-spare-used
-returns-then-spare-used c = search (rules, month_done)
-
 pub returns : goal.returns
 returns c = search (rules, month_done)

@@ -2,29 +2,11 @@ use Rattle.transaction.proofs.HeadLaws.{spaced_laws}
 use borrow.Author.Rules.{rules}
 use Rattle.transaction.proofs.transaction.gap_string.Goals as goal
 
-pub gap-g-requires : goal.gap-g-requires
-gap-g-requires c = search (rules, spaced_laws)
+pub returns-in_err-a : goal.returns-in_err-a
+returns-in_err-a c = search (rules, spaced_laws, c.in_err-a.was)
 
-pub enum_known-g : goal.enum_known-g
-enum_known-g c = search (rules, spaced_laws)
+pub returns-in_err-e : goal.returns-in_err-e
+returns-in_err-e c = search (rules, spaced_laws, c.in_ok-a.was, c.in_err-e.was)
 
-pub string-x-requires : goal.string-x-requires
-string-x-requires c = search (rules, spaced_laws)
-
-pub enum_known-x : goal.enum_known-x
-enum_known-x c = search (rules, spaced_laws)
-
-pub enum_told-1 : goal.enum_told-1
-enum_told-1 c = search (rules, spaced_laws)
-
-pub enum_told-in-Miss : goal.enum_told-in-Miss
-enum_told-in-Miss c = search (rules, spaced_laws)
-
-pub returns-in-To-x : goal.returns-in-To-x
-returns-in-To-x c = search (rules, spaced_laws)
-
-pub returns-in-Miss-x : goal.returns-in-Miss-x
-returns-in-Miss-x c = search (rules, spaced_laws)
-
-pub returns-in-Miss : goal.returns-in-Miss
-returns-in-Miss c = search (rules, spaced_laws)
+pub returns : goal.returns
+returns c = search (rules, spaced_laws, c.in_ok-a.was, c.in_ok-e.was)

@@ -2,17 +2,8 @@ use Rattle.transaction.proofs.HeadLaws.{txn_laws}
 use borrow.Author.Rules.{rules}
 use Rattle.transaction.proofs.transaction.txn_at.Goals as goal
 
-pub word-w-requires : goal.word-w-requires
-word-w-requires c = search (rules, txn_laws)
+pub returns-in_err-e : goal.returns-in_err-e
+returns-in_err-e c = search (rules, txn_laws, c.in_err-e.was)
 
-pub enum_known-w : goal.enum_known-w
-enum_known-w c = search (rules, txn_laws)
-
-pub enum_told-1 : goal.enum_told-1
-enum_told-1 c = search (rules, txn_laws)
-
-pub returns-in-To : goal.returns-in-To
-returns-in-To c = search (rules, txn_laws)
-
-pub returns-in-Miss : goal.returns-in-Miss
-returns-in-Miss c = search (rules, txn_laws)
+pub returns : goal.returns
+returns c = search (rules, txn_laws, c.in_ok-e.was)
