@@ -192,7 +192,7 @@ pub struct Contract {
     pub requires: Vec<String>,
 }
 
-/// The contracts of a file of `src/`, and its ghost imports.
+/// The contracts of a file of `src/`, of its methods too, and its ghost imports.
 pub fn contracts(text: &str) -> (Vec<Contract>, HashMap<String, Import>) {
     let mut found: Vec<Contract> = Vec::new();
     let mut imports = HashMap::new();
@@ -201,8 +201,9 @@ pub fn contracts(text: &str) -> (Vec<Contract>, HashMap<String, Import>) {
         if line.starts_with("ghost use ") {
             import(line, &mut imports);
         }
-        if line.starts_with("pub fn ") || line.starts_with("pub extern \"C\" fn ") {
-            let name = line.split("fn ").nth(1).unwrap_or("");
+        let trimmed = line.trim();
+        if trimmed.starts_with("pub fn ") || trimmed.starts_with("pub extern \"C\" fn ") {
+            let name = trimmed.split("fn ").nth(1).unwrap_or("");
             let name = name.split(['(', '<']).next().unwrap_or("").to_string();
             let (ensures, requires) = (Vec::new(), Vec::new());
             found.push(Contract {
@@ -213,13 +214,13 @@ pub fn contracts(text: &str) -> (Vec<Contract>, HashMap<String, Import>) {
             open = true;
         }
         if let (true, Some(contract)) = (open, found.last_mut()) {
-            if line.trim_start().starts_with("ensures") {
+            if trimmed.starts_with("ensures") {
                 contract.ensures.push(line.to_string());
-            } else if line.trim_start().starts_with("requires") {
+            } else if trimmed.starts_with("requires") {
                 contract.requires.push(line.to_string());
             }
         }
-        open &= line != "{";
+        open &= trimmed != "{";
     }
     (found, imports)
 }
@@ -262,5 +263,14 @@ mod tests {
         assert_eq!(found[0].name, "f");
         assert!(words(&found[0].ensures[0]).any(|w| w == "plain"));
         assert_eq!(imports["plain"].module, "Plain");
+    }
+
+    #[test]
+    fn a_method_has_a_contract() {
+        let (found, _) = contracts("impl R {\n    pub fn at(self) -> usize\n        ensures { result ≡ place self }\n    {\n        self.ensures\n    }\n}\n");
+        assert_eq!(
+            (found.len(), found[0].name.as_str(), found[0].ensures.len()),
+            (1, "at", 1)
+        );
     }
 }
