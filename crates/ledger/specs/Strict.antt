@@ -1,7 +1,7 @@
 -- M-110, the strict profile. Plain reading, and then a judgement of its rows: a ledger that plain reading accepts is
 -- refused if it has a lost line (16) or a transaction's flag other than `*` or `!` (17). The first such row decides,
 -- with its number, at its start.
-use Rattle.std.specs.Prelude.{ℕ, Bool, true, false, cond, not, ◌||◌, ◌&&◌, List, [], ◌∷◌, eqb, get_or, None, Option, Some, is_none}
+use Rattle.std.specs.Prelude.{ℕ, Bool, cond, not, ◌||◌, ◌&&◌, List, [], ◌∷◌, eqb, get_or, Option, is_none}
 use Prim.Native.Char.{code}
 use Rattle.text.specs.Bytes.{bytes, is_blank, is_digit, between}
 use Rattle.text.specs.Words.{starts_with}

@@ -10,8 +10,7 @@
 --               is within the text (and 0 for number 1), and no count
 -- An expression and a tag never lack anything, and a span is never refused. For every input one answer meets the
 -- promise, and no second one does (`proofs/Unique.antt`).
-use Rattle.text.specs.declared.stop.Refused.{Refused}
-use Rattle.std.specs.Prelude.{ℕ, ◌+◌, ◌*◌, ◌≤◌, ◌<◌, ◌≡◌, true, false, ◌⊎◌, List, [], ◌∷◌, ◌++◌, length, take, drop, Result, Err, Ok}
+use Rattle.std.specs.Prelude.{ℕ, ◌+◌, ◌*◌, ◌≤◌, ◌<◌, ◌≡◌, true, false, ◌⊎◌, List, [], ◌∷◌, ◌++◌, length, take, drop, Err, Ok}
 use Rattle.decimal.specs.Exact.{whole_of, twos_of}
 use Rattle.decimal.specs.declared.Decimal.{Decimal}
 use Rattle.decimal.specs.declared.Form.{Form}

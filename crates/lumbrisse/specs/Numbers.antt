@@ -1,7 +1,7 @@
 -- The numbers of each answer, as document 01 has them: number 0 is accepted, and what an answer has not is 0.
 use Rattle.decimal.specs.declared.Decimal.{Decimal}
 use Rattle.text.specs.declared.stop.Refused.{Refused}
-use Rattle.std.specs.Prelude.{ℕ, ◌-◌, cond, List, Err, Ok, Result, Bool, false, true, None, Some}
+use Rattle.std.specs.Prelude.{ℕ, ◌-◌, cond, List, Err, Ok, Result, Bool, None, Some}
 use Rattle.decimal.specs.Exact.{whole_of, twos_of}
 use Rattle.access.specs.Spans.{good_span}
 use Rattle.bus.specs.Fields.{entry_tag, detail_tag}
@@ -18,7 +18,7 @@ replied n p c = record { number = n; place = p; count = c }
 abbrev pub refused_reply : Refused → Reply
 refused_reply r = replied r.number r.place r.count
 
--- reading, totals and writing: how many rows, items or bytes; or a refusal's number, place and count
+-- how many rows, items or bytes; or a refusal's number, place and count
 unfoldable pub reply_of : Result ℕ Refused → Reply
 reply_of (Ok n) = replied 0 0 n
 reply_of (Err r) = refused_reply r

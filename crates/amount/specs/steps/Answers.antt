@@ -1,4 +1,4 @@
--- The code's enums, each from the answer of the rule.
+-- The code's answers, each from the answer of the rule.
 use Rattle.text.specs.declared.stop.Stop.{Stop}
 use Rattle.text.specs.steps.Told.{Reading}
 use Rattle.decimal.specs.Faults.{Value}
@@ -12,7 +12,7 @@ use Rattle.amount.specs.Details.{Rows, span, valued}
 use Rattle.amount.specs.Amounts.{hard_amount}
 use Rattle.amount.specs.declared.detail.Detail.{Detail}
 
--- an expression's only hard miss is refusal 3
+-- the answer of an expression
 unfoldable pub answer_of : Ans Value → Reading Value
 answer_of (To e v) = Ok (e, v)
 answer_of Miss = Err Stop.Miss

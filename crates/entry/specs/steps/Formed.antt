@@ -1,4 +1,4 @@
--- Forms of an entry, as the code reads them: its enums of a rule's answer, and what was done.
+-- Forms of an entry, as the code reads them: its answers, each from a rule's answer, and what was done.
 use Rattle.entry.specs.declared.directive.Formed.{Formed}
 use Rattle.text.specs.declared.stop.Stop.{Stop}
 use Rattle.text.specs.steps.Told.{Reading}

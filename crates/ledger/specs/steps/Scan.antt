@@ -1,7 +1,7 @@
 -- A scan of a ledger, entry by entry: what the code answers, and the rows that it leaves in a table, with no lines yet.
 use Rattle.text.specs.Refusals.{refused_with}
 use Rattle.text.specs.declared.stop.Refused.{Refused}
-use Rattle.std.specs.Prelude.{ℕ, ◌+◌, cond, List, map, eqb, length, Err, Ok, Result, None, Option, Some}
+use Rattle.std.specs.Prelude.{ℕ, ◌+◌, List, map, length, Err, Ok, Result, None, Option, Some}
 use Rattle.row.specs.declared.table.Row.{Row}
 use Rattle.row.specs.steps.Writing.{Poured}
 use Rattle.ledger.specs.declared.strict.Objection.{Objection}
