@@ -2,8 +2,7 @@
 -- is what its test for a digit gave.
 use Rattle.text.specs.steps.Told.{Reading}
 use Rattle.text.specs.declared.stop.Stop.{Stop}
-use Rattle.decimal.specs.Faults.{Value}
-use Rattle.decimal.specs.declared.Fault.{Fault}
+use Rattle.decimal.specs.Faults.{Value, large_fault}
 use Rattle.std.specs.Prelude.{Err, Ok}
 use Prim.Native.Nat.{ℕ, ◌+◌, ◌-◌, ◌*◌, ◌^◌, ◌≤◌, ◌<◌, max}
 use mathlib.Core.Path.{◌≡◌, sym, ◌∙◌, ap}
@@ -130,7 +129,7 @@ pub ruleset factor_laws = (factor_at, factor_none)
 
 -- f is the power
 module _ (m : Bool) (w n k : ℕ) (tail : Bool) where
-  pub value_large : 1000000000 ≤ w → Err Fault.TooLarge ≡ kept_value m w n k tail
+  pub value_large : 1000000000 ≤ w → Err large_fault ≡ kept_value m w n k tail
   unfolding kept_value
   value_large l = rw (le-ltb w 1000000000 l)
 

@@ -1,8 +1,7 @@
 -- A value that an expression gives is within the limit, in any form, or refused by 6, 7 or 8; and what refuses the
 -- expression itself is a group that opens too deep.
-use Rattle.decimal.specs.declared.Fault.{Fault}
 use Rattle.std.specs.Prelude.{Err, Ok}
-use Rattle.decimal.specs.Faults.{Value, number_of}
+use Rattle.decimal.specs.Faults.{Value, number_of, divisor_fault, fine_fault, large_fault}
 use Prim.Native.Nat.{ℕ, zero, suc, ◌+◌, ◌*◌, ◌/◌, ◌%◌, ◌≤◌}
 use native.Mathlib.Nat.{div-le_of_le-mul, mul_comm}
 use native.Mathlib.Omega.{arith}
@@ -40,13 +39,13 @@ pub record Small (v : Value) : Type 0 where
 pub zero_small : Small zero_value
 zero_small = record { holds = omega arith }
 
-too_large : Small (Err Fault.TooLarge)
+too_large : Small (Err large_fault)
 too_large = record { holds = inl refl }
 
-not_exact : Small (Err Fault.TooFine)
+not_exact : Small (Err fine_fault)
 not_exact = record { holds = inr (inl refl) }
 
-by_zero : Small (Err Fault.ZeroDivisor)
+by_zero : Small (Err divisor_fault)
 by_zero = record { holds = inr (inr (inl refl)) }
 
 cond_small : (b : Bool) (v w : Value) → Small v → Small w → Small (cond b v w)
@@ -61,9 +60,9 @@ exact_small : (m : Bool) (n d : ℕ) → Small (exact m n d)
 unfolding exact
 exact_small m n d = on (ltb (limit * d) n) refl
   where
-    on : (b : Bool) → ltb (limit * d) n ≡ b → Small (cond b (Err Fault.TooLarge) (cond (eqb (n % d) 0) (Ok (decimal_of m (n / d))) (Err Fault.TooFine)))
+    on : (b : Bool) → ltb (limit * d) n ≡ b → Small (cond b (Err large_fault) (cond (eqb (n % d) 0) (Ok (decimal_of m (n / d))) (Err fine_fault)))
     on true e = too_large
-    on false e = cond_small (eqb (n % d) 0) _ (Err Fault.TooFine) (made_small m (n / d) (div-le_of_le-mul d (rw (mul_comm d limit) (ltb-false (limit * d) n e)))) not_exact
+    on false e = cond_small (eqb (n % d) 0) _ (Err fine_fault) (made_small m (n / d) (div-le_of_le-mul d (rw (mul_comm d limit) (ltb-false (limit * d) n e)))) not_exact
 
 exactly_small : (z : ℤ) (d : ℕ) → Small (exactly z d)
 unfolding exactly
@@ -75,7 +74,7 @@ negated_small (Ok a) h = exactly_small _ 1
 negated_small (Err n) h = h
 
 operands_small : (a b : Decimal) (v : Value) → Small v → Small (operands a b v)
-operands_small a b v h = cond_small (ltb limit a.size || ltb limit b.size) (Err Fault.TooLarge) v too_large h
+operands_small a b v h = cond_small (ltb limit a.size || ltb limit b.size) (Err large_fault) v too_large h
 
 sum_small : (a b : Decimal) → Small (sum a b)
 unfolding sum
@@ -97,7 +96,7 @@ product_small form a b = operands_small a b _ (value_small form (whole_of a *ℤ
 quotient_small : (form : Form) (a b : Decimal) → Small (quotient form a b)
 unfolding quotient
 quotient_small form a b =
-    operands_small a b _ (cond_small (eqb b.size 0) (Err Fault.ZeroDivisor) _ by_zero (value_small form (whole_of a *ℤ sized b.minus 1000000) b.size))
+    operands_small a b _ (cond_small (eqb b.size 0) (Err divisor_fault) _ by_zero (value_small form (whole_of a *ℤ sized b.minus 1000000) b.size))
 
 operated_small : (form : Form) (op : ℕ) (a b : Decimal) → Small (operated form op a b)
 unfolding operated

@@ -2,7 +2,7 @@
 -- under one statement in `proofs/Examples.antt`, by computation.
 use Rattle.text.specs.Refusals.{too_deep}
 use Rattle.decimal.specs.declared.Fault.{Fault}
-use Rattle.decimal.specs.Faults.{Value}
+use Rattle.decimal.specs.Faults.{Value, divisor_fault, fine_fault, large_fault}
 use Rattle.std.specs.Prelude.{ℕ, true, false, List, [], ◌∷◌, ◌++◌, replicate, Err, Ok}
 use Prim.Native.Char.{code}
 use Prim.Native.String.{String}
@@ -38,11 +38,11 @@ edges =
     ∷ less "- 5" 3 5000000
     ∷ misses "-\t5"
     ∷ is "1,2,.5" 6 12500000
-    ∷ refused "1/3" 3 Fault.TooFine
-    ∷ refused "1/0" 3 Fault.ZeroDivisor
+    ∷ refused "1/3" 3 fine_fault
+    ∷ refused "1/0" 3 divisor_fault
     ∷ is "0.000001" 8 1
-    ∷ refused "0.0000001" 9 Fault.TooFine
-    ∷ refused "999999999.999999*1.000001" 25 Fault.TooLarge
+    ∷ refused "0.0000001" 9 fine_fault
+    ∷ refused "999999999.999999*1.000001" 25 large_fault
     ∷ misses ""
     ∷ (nested "" 32, To 65 (Ok (record { minus = false; size = 2000000 })))
     ∷ (nested "" 33, Hard too_deep 32)
@@ -77,10 +77,10 @@ literals =
 abbrev orders : List Example
 orders =
     less "-(2) + 1" 4 2000000
-    ∷ refused "0/0" 3 Fault.ZeroDivisor
-    ∷ refused "9999999999/0" 12 Fault.TooLarge
-    ∷ refused "0.0000001*9999999999" 20 Fault.TooFine
-    ∷ refused "1/0+9999999999" 14 Fault.ZeroDivisor
+    ∷ refused "0/0" 3 divisor_fault
+    ∷ refused "9999999999/0" 12 large_fault
+    ∷ refused "0.0000001*9999999999" 20 fine_fault
+    ∷ refused "1/0+9999999999" 14 divisor_fault
     ∷ []
 
 -- point 9: refusal 3 counts in a reading that would be dropped, and a negation's group counts

@@ -4,7 +4,7 @@ ghost use Rattle.amount.specs.Literal.{unsigned, literal};
 ghost use Rattle.amount.specs.steps.Kept.{whole_from, fraction_from, factor, kept_value, whole_literal, point_literal, whole_limit, kept_limit};
 ghost use Rattle.amount.specs.steps.Answers.{answer_of};
 
-use decimal::{Fault, Value};
+use decimal::Value;
 use text::run::Class;
 use text::stop::{Reading, Stop};
 use text::{bytes, run};
@@ -121,7 +121,7 @@ fn value(minus: bool, whole: u64, size: u64, places: u64, tail: bool) -> Value
     ensures { result ≡ kept_value minus whole size places tail }
 {
     if 1_000_000_000 <= whole {
-        return Err(Fault::TooLarge);
+        return Err(decimal::TOO_LARGE);
     }
     let f = power(places);
     if tail {

@@ -1,5 +1,5 @@
 -- M-106: what the exact form knows of a product or a quotient, the rounding form knows too.
-use Rattle.decimal.specs.Faults.{Value}
+use Rattle.decimal.specs.Faults.{Value, divisor_fault, large_fault}
 use Rattle.decimal.specs.declared.Fault.{Fault}
 use Rattle.std.specs.Prelude.{Err, Ok}
 use Prim.Native.Nat.{ℕ, suc, ◌*◌, ◌/◌, ◌%◌, ◌≤◌}
@@ -51,10 +51,10 @@ unless_kept false k v w h a e = h refl a e
 
 pub product_kept : (a b : Decimal) → Knows (product Exact a b) (product Rounding a b)
 unfolding product
-product_kept a b = unless_kept (ltb limit a.size || ltb limit b.size) Fault.TooLarge _ _ (λ _. value_kept _ 1000000 (omega arith))
+product_kept a b = unless_kept (ltb limit a.size || ltb limit b.size) large_fault _ _ (λ _. value_kept _ 1000000 (omega arith))
 
 pub quotient_kept : (a b : Decimal) → Knows (quotient Exact a b) (quotient Rounding a b)
 unfolding quotient
 quotient_kept a b =
-    unless_kept (ltb limit a.size || ltb limit b.size) Fault.TooLarge _ _
-    (λ _. unless_kept (eqb b.size 0) Fault.ZeroDivisor _ _ (λ f. let n = eqb-false b.size 0 f in value_kept _ b.size (omega arith)))
+    unless_kept (ltb limit a.size || ltb limit b.size) large_fault _ _
+    (λ _. unless_kept (eqb b.size 0) divisor_fault _ _ (λ f. let n = eqb-false b.size 0 f in value_kept _ b.size (omega arith)))

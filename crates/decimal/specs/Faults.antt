@@ -2,12 +2,21 @@
 use Rattle.std.specs.Prelude.{ℕ, Result}
 use Rattle.decimal.specs.declared.Decimal.{Decimal}
 use Rattle.decimal.specs.declared.Fault.{Fault}
-use Rattle.decimal.specs.declared.Fault.TheVariants.{TooLarge, TooFine, ZeroDivisor}
 
 abbrev pub Value : Type 0
 Value = Result Decimal Fault
 
 abbrev pub number_of : Fault → ℕ
-number_of TooLarge = 6
-number_of TooFine = 7
-number_of ZeroDivisor = 8
+number_of fault = fault.number
+
+-- too large
+abbrev pub large_fault : Fault
+large_fault = record { number = 6 }
+
+-- no multiple of a millionth
+abbrev pub fine_fault : Fault
+fine_fault = record { number = 7 }
+
+-- a zero divisor
+abbrev pub divisor_fault : Fault
+divisor_fault = record { number = 8 }

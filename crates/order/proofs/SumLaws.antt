@@ -1,7 +1,6 @@
 -- Laws of the exact sum.
-use Rattle.decimal.specs.declared.Fault.{Fault}
 use Rattle.std.specs.Prelude.{Err}
-use Rattle.decimal.specs.Faults.{Value}
+use Rattle.decimal.specs.Faults.{Value, large_fault}
 use Prim.Native.Nat.{ℕ, ◌+◌, ◌-◌, ◌*◌, ◌%◌, ◌^◌, ◌≤◌, ◌<◌}
 use native.Mathlib.Omega.{arith}
 use native.Mathlib.Nat.{sub-zero}
@@ -92,17 +91,17 @@ module _ (n : ℕ) (w : Wide) (l : w.low < 2 ^ 64) where
       let d : n * word_limit - size w ≡ largest - w.low + 1 = omega arith in
       under r (omega arith) (rw d (e ∙ ones_is true (largest - w.low + 1)))
 
-  pub far_up : (w.high ≡ n → ⊥) → n ≤ w.high → Err Fault.TooLarge ≡ exactly (held n w) 1
+  pub far_up : (w.high ≡ n → ⊥) → n ≤ w.high → Err large_fault ≡ exactly (held n w) 1
   unfolding size
-  far_up h k = over (Err Fault.TooLarge) (omega arith) (sym (exact_large false (size w - n * word_limit) 1 (omega arith)))
+  far_up h k = over (Err large_fault) (omega arith) (sym (exact_large false (size w - n * word_limit) 1 (omega arith)))
 
-  pub far_down : w.high < n → (n - w.high ≡ 1 → ⊥) → Err Fault.TooLarge ≡ exactly (held n w) 1
+  pub far_down : w.high < n → (n - w.high ≡ 1 → ⊥) → Err large_fault ≡ exactly (held n w) 1
   unfolding size
-  far_down h k = under (Err Fault.TooLarge) (omega arith) (sym (exact_large true (n * word_limit - size w) 1 (omega arith)))
+  far_down h k = under (Err large_fault) (omega arith) (sym (exact_large true (n * word_limit - size w) 1 (omega arith)))
 
-  pub just_down : w.high < n → n - w.high ≡ 1 → w.low ≤ 0 → Err Fault.TooLarge ≡ exactly (held n w) 1
+  pub just_down : w.high < n → n - w.high ≡ 1 → w.low ≤ 0 → Err large_fault ≡ exactly (held n w) 1
   unfolding size
-  just_down h o k = under (Err Fault.TooLarge) (omega arith) (sym (exact_large true (n * word_limit - size w) 1 (omega arith)))
+  just_down h o k = under (Err large_fault) (omega arith) (sym (exact_large true (n * word_limit - size w) 1 (omega arith)))
 
 pub ruleset held_laws = (held_up, held_down, far_up, far_down, just_down)
 

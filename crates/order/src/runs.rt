@@ -9,7 +9,7 @@ ghost use Rattle.order.specs.steps.Runs.{run_end};
 
 use crate::record::RECORD;
 use crate::{compare, sum};
-use decimal::{Fault, Value};
+use decimal::Value;
 use text::stop::{Refused, refused_at};
 
 // Up to which record a run goes, and the sum of its values.
@@ -60,7 +60,7 @@ pub fn count_runs(s: &[u8], t: &[u8]) -> Result<usize, Refused>
     while i < n {
         let run = run_at(s, t, i);
         if run.sum.is_err() {
-            return Err(refused_at(usize::from(Fault::TooLarge), compare::row_at(t, i).start));
+            return Err(refused_at(usize::from(decimal::TOO_LARGE), compare::row_at(t, i).start));
         }
         i = run.end;
         k += 1;

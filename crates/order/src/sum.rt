@@ -8,7 +8,7 @@ ghost use Rattle.order.specs.steps.Wide.{size, held};
 
 use crate::compare;
 use crate::record::RECORD;
-use decimal::{Fault, Value};
+use decimal::Value;
 
 // A whole number in two words. The upper one starts at the number of records, so that it never falls below zero.
 #[derive(Clone, Copy)]
@@ -54,7 +54,7 @@ fn judged(w: Wide, n: u64) -> Value
     if w.high < n && n - w.high == 1 && 0 < low {
         return decimal::judged(true, LAST - low + 1, 0);
     }
-    Err(Fault::TooLarge)
+    Err(decimal::TOO_LARGE)
 }
 
 // The sum of the values of all records of a buffer.

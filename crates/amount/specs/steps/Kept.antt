@@ -1,7 +1,6 @@
 -- What the code keeps of the digits of a literal. The literal's own meaning is `literal_as`: a law shows that what is
 -- kept comes to it.
-use Rattle.decimal.specs.declared.Fault.{Fault}
-use Rattle.decimal.specs.Faults.{Value}
+use Rattle.decimal.specs.Faults.{Value, large_fault}
 use Rattle.std.specs.Prelude.{ℕ, ◌+◌, ◌-◌, ◌*◌, ◌^◌, Bool, true, false, cond, List, [], ◌∷◌, ltb, eqb, get_or, drop, Err}
 use Prim.Native.Char.{code}
 use Rattle.decimal.specs.steps.Judged.{judged_of}
@@ -43,7 +42,7 @@ factor k = 10 ^ (6 - k)
 
 -- the value of a whole part, and of its digits with those of k places after the point
 unfoldable pub kept_value : Bool → ℕ → ℕ → ℕ → Bool → Value
-kept_value minus whole n k tail = cond (ltb whole 1000000000) (judged_of minus (n * factor k) (cond tail 1 0)) (Err Fault.TooLarge)
+kept_value minus whole n k tail = cond (ltb whole 1000000000) (judged_of minus (n * factor k) (cond tail 1 0)) (Err large_fault)
 
 -- a literal whose whole part w ends where no point stands
 unfoldable pub whole_literal : Bool → Whole → Ans Value
