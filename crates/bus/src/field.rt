@@ -43,12 +43,12 @@ pub fn is_whole(r: &[u8]) -> bool
     HEAD + stated_length(r) <= r.len()
 }
 
-// So many bytes of `from`, from place `at` on, to the front of `to`: `copy_from_slice` of parts, in one equation.
+// So many bytes of `from`, from place `at` on, to the front of `to`.
 pub fn copy_part(from: &[u8], at: usize, n: usize, to: &mut [u8])
     requires { (at + n ≤ length from.now) × (n ≤ length to.old) }
     ensures { to.new ≡ take n (drop at from.now) ++ drop n to.old }
 {
-    to[0..n].copy_from_slice(&from[at..at + n]);
+    work::copy_over(&from[at..at + n], &mut to[0..n]);
 }
 
 // A tag and a length to `to`, from place `at` on: the length's highest byte first.

@@ -7,15 +7,16 @@ ghost use Rattle.order.specs.Records.{record_width};
 
 use crate::compare;
 use crate::record::RECORD;
+use row::work;
 
-// Record i, over record k: `copy_from_slice` of parts, in one equation.
+// Record i, over record k.
 fn copy_record(from: &[u8], i: usize, to: &mut [u8], k: usize)
     requires { (i * record_width + record_width ≤ length from.now) × (k * record_width + record_width ≤ length to.old) }
     ensures { to.new ≡ paste to.old (k * record_width) (drop (i * record_width) from.now) record_width }
 {
     let a = i * RECORD;
     let b = k * RECORD;
-    to[b..b + RECORD].copy_from_slice(&from[a..a + RECORD]);
+    work::copy_over(&from[a..a + RECORD], &mut to[b..b + RECORD]);
 }
 
 // Whether record i comes next, where records i to m and j to n are left.
@@ -60,7 +61,7 @@ fn sort_part(s: &[u8], t: &mut [u8], u: &mut [u8])
     sort_part(s, &mut t[0..at], &mut u[0..at]);
     sort_part(s, &mut t[at..], &mut u[at..]);
     merge(s, t, m, u);
-    t[0..n * RECORD].copy_from_slice(&u[0..n * RECORD]);
+    work::copy_over(&u[0..n * RECORD], &mut t[0..n * RECORD]);
 }
 
 // The records of t in order, if the lent working space holds as many; else it says so, and t is left.

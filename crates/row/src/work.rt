@@ -12,12 +12,23 @@ pub fn clear(w: &mut [u8], n: usize)
     w[..n].fill(0);
 }
 
-// All of `from` to `to`, from place `at` on: `copy_from_slice` into a part, in one equation.
+// All of `from` over a part that is as long. Byte by byte and not by `copy_from_slice`, which calls `memmove`: a name that
+// whoever links the archive would have to bring.
+pub fn copy_over(from: &[u8], to: &mut [u8])
+    requires { length from.now ≡ length to.old }
+    ensures { to.new ≡ from.now }
+{
+    for i in 0..from.len() {
+        to[i] = from[i];
+    }
+}
+
+// All of `from` to `to`, from place `at` on.
 pub fn copy(from: &[u8], to: &mut [u8], at: usize)
     requires { at + length from.now ≤ length to.old }
     ensures { to.new ≡ sets to.old at from.now }
 {
-    to[at..at + from.len()].copy_from_slice(from);
+    copy_over(from, &mut to[at..at + from.len()]);
 }
 
 // A sum, or the largest number.

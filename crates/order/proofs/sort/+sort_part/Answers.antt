@@ -11,4 +11,4 @@ returns-then-n-lt2 t c = search (rules, few_sorted)
 
 pub returns : goal.returns
 returns t c =
-    halves _ c.args.t.now _ _ _ _ _ _ _ _ (record_room c.args.t.now / 2) (omega arith) c.sort_part.ensures refl c.sort_part-2.ensures refl c.merge.ensures c.copy_from_slice.ensures.after refl
+    halves _ c.args.t.now _ _ _ _ _ _ _ _ (record_room c.args.t.now / 2) (omega arith) c.sort_part.ensures refl c.sort_part-2.ensures refl c.merge.ensures c.copy_over.ensures refl
