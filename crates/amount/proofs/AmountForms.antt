@@ -89,7 +89,7 @@ module _ (k : ℕ) (s : List ℕ) (at : ℕ) where
 -- what the plain amount answers where the required one has a hard miss
 abbrev plainly : Cause → ℕ → Rows
 plainly Cause.Missing i = Miss
-plainly Cause.TooDeep i = Hard Cause.TooDeep i
+plainly cause i = Hard cause i
 
 -- what the arms of a match on a required amount's answer a tell
 was_row : {h r : Rows} (a : Reading Detail) (j : ℕ) (d : Detail) → Both h r → a ≡ one_of h → a ≡ Ok (j, d) → (h ≡ To j (d ∷ [])) × (r ≡ To j (d ∷ []))
@@ -122,9 +122,18 @@ module _ (k : ℕ) (s : List ℕ) (at : ℕ) (a : Reading Detail) (p : a ≡ one
   unfolding one_of
   amount_lacks i q = rw (was_hard a Cause.Missing i (both_amounts k s at) p q).1
 
-  pub amount_deep : (i : ℕ) → a ≡ Err (Stop.Hard Cause.TooDeep i) → Err (Stop.Hard Cause.TooDeep i) ≡ one_of (amount k s at)
+  amount_hard : (cause : Cause) (i : ℕ) → plainly cause i ≡ Hard cause i → a ≡ Err (Stop.Hard cause i) → Err (Stop.Hard cause i) ≡ one_of (amount k s at)
   unfolding one_of
-  amount_deep i q = rw (was_hard a Cause.TooDeep i (both_amounts k s at) p q).1
+  amount_hard cause i e q = rw ((was_hard a cause i (both_amounts k s at) p q).1, e)
+
+  pub amount_deep : (i : ℕ) → a ≡ Err (Stop.Hard Cause.TooDeep i) → Err (Stop.Hard Cause.TooDeep i) ≡ one_of (amount k s at)
+  amount_deep i q = amount_hard Cause.TooDeep i refl q
+
+  pub amount_gap : (i : ℕ) → a ≡ Err (Stop.Hard Cause.MissingGap i) → Err (Stop.Hard Cause.MissingGap i) ≡ one_of (amount k s at)
+  amount_gap i q = amount_hard Cause.MissingGap i refl q
+
+  pub amount_part : (i : ℕ) → a ≡ Err (Stop.Hard Cause.MissingPart i) → Err (Stop.Hard Cause.MissingPart i) ≡ one_of (amount k s at)
+  amount_part i q = amount_hard Cause.MissingPart i refl q
 
 -- ---- prices: g is the gap's answer, a the amount's, u the currency's
 
@@ -156,7 +165,7 @@ pub ruleset end_laws = (tried, end_gap, end_read, end_unit)
 
 pub ruleset required_laws = (required_read, required_stop)
 
-pub ruleset amount_laws = (amount_read, amount_none, amount_lacks, amount_deep)
+pub ruleset amount_laws = (amount_read, amount_none, amount_lacks, amount_deep, amount_gap, amount_part)
 
 pub ruleset priced_laws = (tried, priced_gap, priced_read, priced_stop)
 

@@ -22,7 +22,6 @@ use Rattle.text.specs.steps.Accounts.{account_at, account_answer}
 use Rattle.text.proofs.AccountLaws.{account_answers}
 use Rattle.text.proofs.Joins.{Reach}
 use Rattle.text.proofs.TokenEnds.{string_reach}
-use Rattle.text.specs.Refusals.{missing_part}
 use Rattle.amount.specs.declared.detail.Detail.{Detail}
 use Rattle.amount.specs.Details.{Rows, span, named, valued, quoted}
 pub use Rattle.amount.specs.Kinds.{flag_kind, cost_kind, posting_kind, refusal_kind}
@@ -296,7 +295,7 @@ module _ (s : List ℕ) (at : ℕ) where
       on : (r : Result ℕ Stop) → Bare (account_answer r)
       on (Ok j) = record { none = refl }
       on (Err Stop.Miss) = record { none = tt }
-      on (Err (Stop.Hard missing_part at)) = record { none = tt }
+      on (Err (Stop.Hard cause at)) = record { none = tt }
 
   pub currency_bare : Bare (currency s at)
   unfolding currency

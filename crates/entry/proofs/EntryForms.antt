@@ -39,8 +39,7 @@ entry_form s n rs e = go (form_of s) refl e
         let j = same k f (judged_got f.details (got k (rows_of s k f)) n rs q) in
         (f, subst (λ m. form_of s ≡ To m f) j.0 p, subst (λ m. rs ≡ rows_of s m f) j.0 j.1)
     go Miss p q = absurd (let z : ◌≡◌ {A = ℕ} 0 1 = cc in omega arith)
-    go (Hard Cause.TooDeep m) p q = absurd (let z : ◌≡◌ {A = ℕ} 0 1 = cc in omega arith)
-    go (Hard Cause.Missing m) p q = absurd (let z : ◌≡◌ {A = ℕ} 0 1 = cc in omega arith)
+    go (Hard k m) p q = absurd (let z : ◌≡◌ {A = ℕ} 0 1 = cc in omega arith)
 
 -- a byte at least, and no more than there are
 pub entry_sound : (s : List ℕ) (n : ℕ) (rs : List Row) → entry_of s ≡ got n rs → (0 < n) × (n ≤ length s)

@@ -12,6 +12,7 @@ use borrow.Author.Tests.{eqb-true}
 use lib.Dec.{eqb}
 use lib.ListN.{length}
 use Rattle.text.specs.Every.{OneOf}
+use Rattle.text.specs.Refusals.{cause_number}
 use Rattle.text.specs.Answer.{Ans, To, Miss, Hard}
 use Rattle.text.proofs.Joins.{Reach}
 use Rattle.amount.specs.declared.detail.Detail.{Detail}
@@ -21,7 +22,7 @@ use Rattle.amount.proofs.RowCounts.{any_kinds, Second, unset, within, day, flagg
 use Rattle.row.specs.declared.table.Row.{Row}
 use Rattle.row.specs.Details.{value_place}
 use Rattle.entry.specs.Forms.{Form, form_of}
-use Rattle.entry.specs.Entry.{got, refuse, judged, settled, entry_of}
+use Rattle.entry.specs.Entry.{hard_place, got, refuse, judged, settled, entry_of}
 use Rattle.entry.proofs.EntryEnds.{form_reach}
 use Rattle.entry.proofs.EntryTold.{form_placed}
 use Rattle.entry.proofs.EntryLines.{rising_le}
@@ -70,6 +71,19 @@ module _ (s : List ℕ) (k p : ℕ) where
           let z : value_place d ≡ p = cc in
           (subst (OneOf value_numbers) y (subst Small q t).holds, omega arith)
 
+  hard_number : (cause : Cause) → OneOf entry_numbers (cause_number cause)
+  hard_number Cause.TooDeep = inl refl
+  hard_number Cause.Missing = inr (inl refl)
+  hard_number Cause.MissingGap = inr (inl refl)
+  hard_number Cause.MissingPart = inr (inl refl)
+
+  hard_within : (cause : Cause) (j : ℕ) → j ≤ length s → hard_place cause j ≤ length s
+  unfolding hard_place
+  hard_within Cause.TooDeep j h = h
+  hard_within Cause.Missing j h = omega arith
+  hard_within Cause.MissingGap j h = omega arith
+  hard_within Cause.MissingPart j h = omega arith
+
   entry_met : entry_of s ≡ refuse k p → Met entry_numbers s k p
   unfolding entry_of settled
   entry_met e = on (form_of s) refl e
@@ -81,15 +95,11 @@ module _ (s : List ℕ) (k p : ℕ) where
           let y : k ≡ 5 = cc in
           let z : ◌≡◌ {A = ℕ} 0 p = cc in
           (inr (inr (inl y)), omega arith)
-      on (Hard Cause.TooDeep j) q e =
+      on (Hard cause j) q e =
           let r = (subst (Reach (length s) 1) q (form_reach s)).ends in
-          let y : 3 ≡ k = cc in
-          let z : j ≡ p = cc in
-          (inl (sym y), omega (arith, z, r.0))
-      on (Hard Cause.Missing j) q e =
-          let y : 4 ≡ k = cc in
-          let z : ◌≡◌ {A = ℕ} 0 p = cc in
-          (inr (inl (sym y)), omega arith)
+          let y : cause_number cause ≡ k = cc in
+          let z : hard_place cause j ≡ p = cc in
+          (subst (OneOf entry_numbers) y (hard_number cause), omega (arith, z, hard_within cause j r.0))
 
   pub entry_number : entry_of s ≡ refuse k p → OneOf entry_numbers k
   entry_number e = (entry_met e).0

@@ -4,7 +4,7 @@ use Rattle.entry.specs.declared.directive.Formed.{Formed}
 use Rattle.text.specs.declared.stop.Stop.{Stop}
 use Rattle.text.specs.steps.Told.{Reading}
 use Rattle.text.specs.declared.stop.Cause.{Cause}
-use Rattle.std.specs.Prelude.{None, Option, Some, Err, Ok}
+use Rattle.std.specs.Prelude.{None, Option, Some, Result, Err, Ok}
 use Prim.Native.Nat.{ℕ, ◌+◌, ◌≤◌}
 use native.Mathlib.Omega.{arith}
 use mathlib.Core.Path.{◌≡◌, refl, sym, ◌∙◌, ap, subst}
@@ -42,12 +42,12 @@ use Rattle.entry.proofs.KeywordLaws.{keyword_on, keyword_off, keyword_within, ke
 
 -- ---- an answer as a form of a kind
 
-module _ (k d : ℕ) (r : Reading Out) where
+module _ {E : Type 0} (k d : ℕ) (r : Result (ℕ × Out) E) where
   pub formed_read : (e : ℕ) (m : Out) → r ≡ Ok (e, m) → Ok (e, record { kind = k; date = d; out = m }) ≡ formed_of k d r
   unfolding formed_of
   formed_read e m h = rw h
 
-  pub formed_stop : (stop : Stop) → r ≡ Err stop → Err stop ≡ formed_of k d r
+  pub formed_stop : (stop : E) → r ≡ Err stop → Err stop ≡ formed_of k d r
   unfolding formed_of
   formed_stop stop h = rw h
 

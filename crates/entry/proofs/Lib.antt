@@ -11,3 +11,4 @@ pub mod KeywordLaws
 pub mod FormLaws
 pub mod UndatedLaws
 pub mod SettleLaws
+pub mod FirstLaws

@@ -31,7 +31,7 @@ use Rattle.row.proofs.OutLaws.{rows_outs}
 use Rattle.row.proofs.PourLaws.{pour_at_zero}
 use Rattle.row.proofs.TableLaws.{head_and_rest}
 use Rattle.entry.specs.Forms.{Form, form_of}
-use Rattle.entry.specs.Entry.{rows_of, Reads, got, refuse, judged, settled, entry_of}
+use Rattle.entry.specs.Entry.{hard_place, rows_of, Reads, got, refuse, judged, settled, entry_of}
 use Rattle.entry.specs.steps.Formed.{DidForm}
 use Rattle.entry.specs.steps.Settled.{own_row, entry_unless, settled_entry, settled_table, kind_of, entry_answer, form_rows, EntryPoured}
 use Rattle.entry.proofs.EntryEnds.{form_reach}
@@ -156,20 +156,29 @@ module _ (base : ℕ) (s t : List ℕ) (i : ℕ) (v : List ℕ) (f : Reading For
 
   module _ (p : ℕ) where
     pub entry_three : (n : ℕ) (r : Refused) → f ≡ Err (Stop.Hard Cause.TooDeep p) → n ≡ cause_number Cause.TooDeep → r ≡ refused_with n p 0 → Err r ≡ entry_answer (entry_of s)
-    unfolding entry_of settled entry_answer
+    unfolding entry_of settled entry_answer hard_place
     entry_three n r h e q = rw (form_refused base (form_of s) none_held (take (length t - i) (drop i t)) v f Cause.TooDeep p w h, q, e)
 
-    pub entry_other : (n : ℕ) (r : Refused) → f ≡ Err (Stop.Hard Cause.Missing p) → n ≡ cause_number Cause.Missing → r ≡ refused_with n 0 0 → Err r ≡ entry_answer (entry_of s)
+    entry_lacks : (cause : Cause) (n : ℕ) (r : Refused) → hard_place cause p ≡ 0 → f ≡ Err (Stop.Hard cause p) → n ≡ cause_number cause → r ≡ refused_with n 0 0
+        → Err r ≡ entry_answer (entry_of s)
     unfolding entry_of settled entry_answer
-    entry_other n r h e q = rw (form_refused base (form_of s) none_held (take (length t - i) (drop i t)) v f Cause.Missing p w h, q, e)
+    entry_lacks cause n r z h e q = rw (form_refused base (form_of s) none_held (take (length t - i) (drop i t)) v f cause p w h, z, q, e)
 
-    pub entry_deep_left : (u : List ℕ) → f ≡ Err (Stop.Hard Cause.TooDeep p) → EntryPoured (entry_of s) base s t u
-    unfolding entry_of settled
-    entry_deep_left u h = rw (form_refused base (form_of s) none_held (take (length t - i) (drop i t)) v f Cause.TooDeep p w h) tt
+    pub entry_other : (n : ℕ) (r : Refused) → f ≡ Err (Stop.Hard Cause.Missing p) → n ≡ cause_number Cause.Missing → r ≡ refused_with n 0 0 → Err r ≡ entry_answer (entry_of s)
+    unfolding hard_place
+    entry_other n r h e q = entry_lacks Cause.Missing n r refl h e q
 
-    pub entry_other_left : (u : List ℕ) → f ≡ Err (Stop.Hard Cause.Missing p) → EntryPoured (entry_of s) base s t u
+    pub entry_no_gap : (n : ℕ) (r : Refused) → f ≡ Err (Stop.Hard Cause.MissingGap p) → n ≡ cause_number Cause.MissingGap → r ≡ refused_with n 0 0 → Err r ≡ entry_answer (entry_of s)
+    unfolding hard_place
+    entry_no_gap n r h e q = entry_lacks Cause.MissingGap n r refl h e q
+
+    pub entry_no_part : (n : ℕ) (r : Refused) → f ≡ Err (Stop.Hard Cause.MissingPart p) → n ≡ cause_number Cause.MissingPart → r ≡ refused_with n 0 0 → Err r ≡ entry_answer (entry_of s)
+    unfolding hard_place
+    entry_no_part n r h e q = entry_lacks Cause.MissingPart n r refl h e q
+
+    pub entry_hard_left : (cause : Cause) (u : List ℕ) → f ≡ Err (Stop.Hard cause p) → EntryPoured (entry_of s) base s t u
     unfolding entry_of settled
-    entry_other_left u h = rw (form_refused base (form_of s) none_held (take (length t - i) (drop i t)) v f Cause.Missing p w h) tt
+    entry_hard_left cause u h = rw (form_refused base (form_of s) none_held (take (length t - i) (drop i t)) v f cause p w h) tt
 
   -- the entry and its rows are no more than the text
   module _ (y : Formed) (n : ℕ) (h : f ≡ Ok (n, y)) where
@@ -185,4 +194,4 @@ module _ (base : ℕ) (s t : List ℕ) (i : ℕ) (v : List ℕ) (f : Reading For
     pub entry_room : length s ≤ size_limit → y.out.rows ≤ size_limit
     entry_room l = omega (arith, entry_bounds)
 
-pub ruleset entry_laws = (entry_within, entry_room, entry_answer_lem, entry_poured, entry_missed, entry_miss_left, entry_three, entry_other, entry_deep_left, entry_other_left)
+pub ruleset entry_laws = (entry_within, entry_room, entry_answer_lem, entry_poured, entry_missed, entry_miss_left, entry_three, entry_other, entry_no_gap, entry_no_part, entry_hard_left)

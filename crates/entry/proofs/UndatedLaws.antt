@@ -277,7 +277,7 @@ pub ruleset word_laws = (tried, option_word_lem, option_next, include_word_lem, 
 
 -- ---- these, to which the code answered f, else a line
 
-blank_done : (base : ℕ) (s : List ℕ) (o : Out) (t : List ℕ) → DidForm base (blank s) o t t (blank_formed s o)
+pub blank_done : (base : ℕ) (s : List ℕ) (o : Out) (t : List ℕ) → DidForm base (blank s) o t t (blank_formed s o)
 unfolding blank blank_formed as_entry outs
 blank_done base s o t = go (eqb (get_or s (run_to in_line s 0) 0) 10)
   where
@@ -291,7 +291,7 @@ else_assoc (To j x) b c = refl
 else_assoc Miss b c = refl
 else_assoc (Hard k p) b c = refl
 
-form_else : (s : List ℕ) → form_of s ≡ (directive s else undated s)
+pub form_else : (s : List ℕ) → form_of s ≡ (directive s else undated s)
 unfolding form_of undated option_form include_form pushtag_form poptag_form
 form_else s =
     rw (

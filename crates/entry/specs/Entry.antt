@@ -3,7 +3,7 @@ use Rattle.text.specs.declared.stop.Cause.{Cause}
 use Rattle.decimal.specs.Faults.{number_of}
 use Rattle.std.specs.Prelude.{ℕ, List, [], ◌∷◌, map, pos, length, take, Err, Ok}
 use Rattle.text.specs.Answer.{Ans, To, Miss, Hard}
-use Rattle.text.specs.Refusals.{too_deep, cause_number, missing}
+use Rattle.text.specs.Refusals.{cause_number}
 use Rattle.amount.specs.declared.detail.Detail.{Detail}
 use Rattle.row.specs.declared.table.Row.{Row}
 use Rattle.row.specs.Row.{row_of, feeds}
@@ -28,12 +28,16 @@ unfoldable pub judged : List Detail → Reads → Reads
 judged [] r = r
 judged (d ∷ ds) r = elim d.value [ Ok x ↦ judged ds r | Err fault ↦ refuse (number_of fault) (value_place d) ]
 
--- 3 stands at its group, 4 and 5 at the entry's start
+-- 3 stands at its group, 4 at the entry's start
+unfoldable pub hard_place : Cause → ℕ → ℕ
+hard_place Cause.TooDeep p = p
+hard_place cause p = 0
+
+-- 5 stands at the entry's start
 unfoldable pub settled : List ℕ → Ans Form → Reads
 settled s (To n f) = judged f.details (got n (rows_of s n f))
 settled s Miss = refuse 5 0
-settled s (Hard Cause.TooDeep p) = refuse (cause_number too_deep) p
-settled s (Hard Cause.Missing p) = refuse (cause_number missing) 0
+settled s (Hard cause p) = refuse (cause_number cause) (hard_place cause p)
 
 unfoldable pub entry_of : List ℕ → Reads
 entry_of s = settled s (form_of s)

@@ -57,12 +57,18 @@ fn keyword_at(s: &[u8], at: usize) -> Option<(usize, usize)>
     middle_keyword(s, at)
 }
 
-// What a reader that writes answered, as a form of a kind.
-pub fn formed_as(kind: usize, date: usize, r: Reading<Out>) -> Reading<Formed>
+// What a reader that writes answered, as a form of a kind; why it stopped, whatever that is, is handed on.
+pub fn formed_as<E>(
+    kind: usize,
+    date: usize,
+    r: Result<(usize, Out), E>,
+) -> Result<(usize, Formed), E>
     ensures { result ≡ formed_of kind date r }
 {
-    let (e, out) = r?;
-    Ok((e, Formed { kind, date, out }))
+    match r {
+        Ok((e, out)) => Ok((e, Formed { kind, date, out })),
+        Err(stop) => Err(stop),
+    }
 }
 
 // A content, line end (a plain miss), metadata. Where the line end misses, the rows that were written are covered by
@@ -94,7 +100,7 @@ fn gap_content(
     requires { Readable base s.now at out }
     ensures { Did base (gap_content kind s.now at) out table.old table.new result }
 {
-    let j = line::gap(s, at).ok_or(Stop::Hard(Cause::Missing, at))?;
+    let j = line::gap(s, at).ok_or(Stop::Hard(Cause::MissingGap, at))?;
     content_end(s, j, kind, base, table, out)
 }
 
@@ -138,6 +144,6 @@ pub fn directive_at(s: &[u8], base: usize, table: &mut [u8], out: Out) -> Readin
     ensures { DidForm base (directive s.now) out table.old table.new result }
 {
     let (e, y) = date::date(s, 0).ok_or(Stop::Miss)?;
-    let j = line::gap(s, e).ok_or(Stop::Hard(Cause::Missing, e))?;
+    let j = line::gap(s, e).ok_or(Stop::Hard(Cause::MissingGap, e))?;
     dateless_at(s, j, y as usize, base, table, out)
 }

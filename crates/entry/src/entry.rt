@@ -18,7 +18,7 @@ use row::writer::Out;
 use row::{table, writer};
 use text::run::Class;
 use text::stop::{Cause, Reading, Refused, Stop};
-use text::{line, run, stop, string, tag, word};
+use text::{bytes, line, run, stop, string, tag, word};
 
 // An entry that was read: its kind, and how many bytes and rows it has.
 #[derive(Clone, Copy)]
@@ -79,7 +79,7 @@ fn include_at(s: &[u8], at: usize, base: usize, table: &mut [u8], out: Out) -> R
     requires { Writable 2 base out }
     ensures { Did base (include_of s.now at) out table.old table.new result }
 {
-    let j = line::gap(s, at).ok_or(Stop::Hard(Cause::Missing, at))?;
+    let j = line::gap(s, at).ok_or(Stop::Hard(Cause::MissingGap, at))?;
     include_end(s, j, base, table, out)
 }
 
@@ -161,15 +161,23 @@ fn undated_at(s: &[u8], base: usize, table: &mut [u8], out: Out) -> Reading<Form
     }
 }
 
-// Rule 1. Directive, option, include, pushtag or poptag, else a line.
+// Rule 1. Directive, option, include, pushtag or poptag, else a line. The first byte tells which of these can be read: a
+// directive starts with a digit, each of the words with a small letter, and most lines with neither.
 fn form_at(s: &[u8], base: usize, table: &mut [u8], out: Out) -> Reading<Formed>
     requires { Readable base s.now 0 out }
     ensures { DidForm base (form_of s.now) out table.old table.new result }
 {
-    match directive::directive_at(s, base, table, out) {
-        Err(Stop::Miss) => undated_at(s, base, table, out),
-        form => form,
+    let first = bytes::peek(s, 0);
+    if bytes::is_digit(first) {
+        return match directive::directive_at(s, base, table, out) {
+            Err(Stop::Miss) => blank_at(s, out),
+            form => form,
+        };
     }
+    if bytes::is_small(first) {
+        return undated_at(s, base, table, out);
+    }
+    blank_at(s, out)
 }
 
 // A form that was read, its details written: its own row goes to the front, unless a value is refused.
@@ -219,6 +227,6 @@ pub fn entry_at(s: &[u8], base: usize, table: &mut [u8]) -> Result<Entry, Refuse
         Ok((end, form)) => settled_at(table, base, end, form),
         Err(Stop::Miss) => Err(stop::refused_at(stop::NO_ENTRY, 0)),
         Err(Stop::Hard(Cause::TooDeep, p)) => Err(stop::refused_at(usize::from(Cause::TooDeep), p)),
-        Err(Stop::Hard(Cause::Missing, _)) => Err(stop::refused_at(usize::from(Cause::Missing), 0)),
+        Err(Stop::Hard(missing, _)) => Err(stop::refused_at(usize::from(missing), 0)),
     }
 }

@@ -9,7 +9,6 @@ use mathlib.Core.List.{List, []}
 use Rattle.text.specs.Answer.{Ans, To, Miss, Hard, ◌then◌, must, ◌and◌, maybe}
 use Rattle.text.specs.Leaves.{token}
 use Rattle.text.specs.Accounts.{account}
-use Rattle.text.specs.Refusals.{missing_part}
 use Rattle.text.specs.steps.Accounts.{account_at, account_answer}
 use Rattle.text.proofs.AccountLaws.{account_answers}
 use Rattle.amount.specs.Details.{Rows}

@@ -1,6 +1,6 @@
 -- The definitions tried on closed inputs: what each token reads at the start of a text, as one list under one
 -- statement, by computation.
-use Rattle.text.specs.Refusals.{missing}
+use Rattle.text.specs.Refusals.{missing_part}
 use Rattle.std.specs.Prelude.{ℕ, ◌≡◌, refl, List, [], ◌∷◌, map}
 use Prim.Native.String.{String}
 use Rattle.text.specs.Bytes.{bytes}
@@ -54,8 +54,8 @@ examples =
     ∷ (start account "A:B 1", to 3)
     ∷ (start account "A:B:", to 3)
     ∷ (start account "1-a:2:Cd", to 8)
-    ∷ (start account "Cash 1 EUR", Hard missing 0)
-    ∷ (start account "A:b", Hard missing 0)
+    ∷ (start account "Cash 1 EUR", Hard missing_part 0)
+    ∷ (start account "A:b", Hard missing_part 0)
     ∷ (start account "cash", Miss)
     ∷ (start currency "A", to 1)
     ∷ (start currency "A-", Miss)

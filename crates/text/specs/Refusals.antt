@@ -3,11 +3,13 @@ use Rattle.text.specs.declared.stop.Refused.{Refused}
 use Rattle.std.specs.Prelude.{ℕ, ◌≤◌, ◌≡◌, List}
 use Rattle.text.specs.Every.{OneOf}
 use Rattle.text.specs.declared.stop.Cause.{Cause}
-use Rattle.text.specs.declared.stop.Cause.TheVariants.{TooDeep, Missing}
+use Rattle.text.specs.declared.stop.Cause.TheVariants.{TooDeep, Missing, MissingGap, MissingPart}
 
 abbrev pub cause_number : Cause → ℕ
 cause_number TooDeep = 3
 cause_number Missing = 4
+cause_number MissingGap = 4
+cause_number MissingPart = 4
 
 -- a group opens inside 32 open ones
 abbrev pub too_deep : Cause
@@ -19,11 +21,11 @@ missing = Missing
 
 -- the gap after a date, a directive's keyword or `include` is missing
 abbrev pub missing_gap : Cause
-missing_gap = missing
+missing_gap = MissingGap
 
 -- an account has no second part
 abbrev pub missing_part : Cause
-missing_part = missing
+missing_part = MissingPart
 
 -- a call's refusal: its number, its place and its count
 abbrev pub refused_with : ℕ → ℕ → ℕ → Refused

@@ -92,7 +92,7 @@ pub fn account(s: &[u8], at: usize) -> Result<usize, Stop>
             if first_part_end(s, at + 1, end) < end {
                 return Ok(end);
             }
-            return Err(Stop::Hard(Cause::Missing, at));
+            return Err(Stop::Hard(Cause::MissingPart, at));
         }
     }
     Err(Stop::Miss)

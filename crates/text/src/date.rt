@@ -10,7 +10,7 @@ fn digit(b: u8) -> u32
     ensures value { result ≡ b - 48 }
     ensures upper_bound { result ≤ 207 }
 {
-    u32::from(b.saturating_sub(b'0'))
+    u32::from(b).saturating_sub(48)
 }
 
 // Two digits as a number.

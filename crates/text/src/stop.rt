@@ -16,8 +16,12 @@ pub enum Stop {
 pub enum Cause {
     // A group opens inside 32 open ones.
     TooDeep,
-    // A required part is missing.
+    // A required part is missing, and it is neither of the next two.
     Missing,
+    // The gap after a date, a directive's keyword or `include` is missing.
+    MissingGap,
+    // An account has no second part.
+    MissingPart,
 }
 
 // Its number in document 01.
@@ -28,6 +32,8 @@ impl From<Cause> for usize {
         match cause {
             Cause::TooDeep => 3,
             Cause::Missing => 4,
+            Cause::MissingGap => 4,
+            Cause::MissingPart => 4,
         }
     }
 }

@@ -2,7 +2,7 @@
 use Rattle.entry.specs.declared.directive.Formed.{Formed}
 use Rattle.text.specs.declared.stop.Stop.{Stop}
 use Rattle.text.specs.steps.Told.{Reading}
-use Rattle.std.specs.Prelude.{ℕ, List, [], map, ◌≡◌, None, Option, Some, Err, Ok}
+use Rattle.std.specs.Prelude.{ℕ, List, [], map, ◌≡◌, None, Option, Some, Result, Err, Ok}
 use Rattle.text.specs.Bytes.{bytes}
 use Rattle.text.specs.Words.{word_at}
 use Rattle.text.specs.Answer.{Ans, To, Miss, Hard, ◌and◌, ◌else◌}
@@ -53,7 +53,7 @@ by_keyword d s g =
     price else balance else opens else close else pad else commodity else event
 
 -- the code's answer of what a reader that writes answered
-unfoldable pub formed_of : ℕ → ℕ → Reading Out → Reading Formed
+unfoldable pub formed_of : {E : Type 0} → ℕ → ℕ → Result (ℕ × Out) E → Result (ℕ × Formed) E
 formed_of k d (Ok (e, o)) = Ok (e, record { kind = k; date = d; out = o })
 formed_of k d (Err stop) = Err stop
 

@@ -2,8 +2,8 @@ use Rattle.entry.proofs.FormLaws.{formed_laws}
 use borrow.Author.Rules.{rules}
 use Rattle.entry.proofs.directive.formed_as.Goals as goal
 
-pub returns-in_err-e : goal.returns-in_err-e
-returns-in_err-e c = search (rules, formed_laws, c.in_err-e.was)
+pub returns-in-Ok : goal.returns-in-Ok
+returns-in-Ok c = search (rules, formed_laws)
 
-pub returns : goal.returns
-returns c = search (rules, formed_laws, c.in_ok-e.was)
+pub returns-in-Err : goal.returns-in-Err
+returns-in-Err c = search (rules, formed_laws)

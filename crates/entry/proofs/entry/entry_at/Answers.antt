@@ -29,8 +29,8 @@ returns-in-Err-Hard-TooDeep-default-clause-value c =
 pub returns-in-Err-Hard-TooDeep-default-clause-entry_poured : goal.returns-in-Err-Hard-TooDeep-default-clause-entry_poured
 returns-in-Err-Hard-TooDeep-default-clause-entry_poured c = search (rules, entry_laws, c.in-Err-Hard-TooDeep-default.ensures)
 
-pub returns-in-Err-Hard-Missing-default-clause-value : goal.returns-in-Err-Hard-Missing-default-clause-value
-returns-in-Err-Hard-Missing-default-clause-value c = search (rules, entry_laws, c.in-Err-Hard-Missing-default.ensures)
+pub returns-in-Err-Hard-clause-value : goal.returns-in-Err-Hard-clause-value
+returns-in-Err-Hard-clause-value c = search (rules, entry_laws, c.in-Err-Hard.ensures)
 
-pub returns-in-Err-Hard-Missing-default-clause-entry_poured : goal.returns-in-Err-Hard-Missing-default-clause-entry_poured
-returns-in-Err-Hard-Missing-default-clause-entry_poured c = search (rules, entry_laws, c.in-Err-Hard-Missing-default.ensures)
+pub returns-in-Err-Hard-clause-entry_poured : goal.returns-in-Err-Hard-clause-entry_poured
+returns-in-Err-Hard-clause-entry_poured c = search (rules, entry_laws, c.in-Err-Hard.ensures)

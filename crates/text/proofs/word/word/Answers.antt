@@ -7,3 +7,6 @@ returns-then-starts_with c = search (rules, word_laws)
 
 pub returns-else-starts_with : goal.returns-else-starts_with
 returns-else-starts_with c = search (rules, word_laws)
+
+pub returns-then-w-gt0 : goal.returns-then-w-gt0
+returns-then-w-gt0 c = search (rules, word_laws)
