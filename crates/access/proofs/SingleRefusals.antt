@@ -41,9 +41,9 @@ module _ (s : List ℕ) where
   answer_told Miss h r = record { listed = inr (inr (inr (inl refl))); within = omega arith; front = λ z. refl }
   answer_told (Hard k p) h r = record { listed = inr (inr (inl (ap cause_number h.holds))); within = r.ends.0; front = λ z. absurd (omega (arith, ap cause_number h.holds)) }
 
-  pub evaluated_refusal : (form : Form) (n p : ℕ) → evaluated form s ≡ Err (refused_with n p 0) → Refusal single_numbers (length s) n p
+  pub evaluated_refusal : (form : Form) (r : Refused) → evaluated form s ≡ Err r → Refusal single_numbers (length s) r.number r.place
   unfolding evaluated
-  evaluated_refusal form n p e = subst Told e (size (leb (length s) size_limit))
+  evaluated_refusal form r e = subst Told e (size (leb (length s) size_limit))
     where
       bytes : (b : Bool) → ltb (clean s) (length s) ≡ b → Told (cond b (Err (refused_with 2 (clean s) 0)) (read_answer (expression_in form s 0)))
       bytes true q = record { listed = inr (inl refl); within = omega (arith, ltb-true (clean s) (length s) q); front = λ z. absurd (omega arith) }
