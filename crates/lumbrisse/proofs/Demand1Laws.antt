@@ -5,6 +5,7 @@ use Rattle.ledger.specs.Strict.{strict}
 use Rattle.ledger.specs.declared.scan.Profile.TheVariants.{Plain, Strict}
 use Rattle.recovery.specs.Recovering.{recovered, recovered_strictly}
 use Rattle.edit.specs.Edits.{editing}
+use Rattle.text.specs.Refusals.{refused_with}
 use Rattle.ledger.proofs.PlainRefusals.{plain_refusal, strict_refusal}
 use Rattle.access.proofs.SingleRefusals.{evaluated_refusal}
 use Rattle.lumbrisse.specs.Demand1.{plain_numbers, Demand1}
@@ -18,7 +19,7 @@ demand_1 =
     record {
       read = λ s. table_reads plain_numbers s (plain s) (plain_refusal s);
       recover = λ s. table_reads (1 ∷ []) s (recovered s) (recovered_refusal Plain s);
-      expression = λ form s. expression_evaluates form s (evaluated_refusal s form);
+      expression = λ form s. expression_evaluates form s (λ n p. evaluated_refusal s form (refused_with n p 0));
       content = content_answers;
       tag_in_force = tag_answers;
       span = span_part;

@@ -168,7 +168,7 @@ evaluated_countless form s = go (leb (length s) size_limit) (ltb (clean s) (leng
     go false c = refl
 
 pub expression_evaluates : (form : Form) (s : List ℕ)
-    → ((x : Refused) → evaluated form s ≡ Err x → Refusal (1 ∷ 2 ∷ 3 ∷ 11 ∷ 6 ∷ 7 ∷ 8 ∷ []) (length s) x.number x.place)
+    → ((n p : ℕ) → evaluated form s ≡ Err (refused_with n p 0) → Refusal (1 ∷ 2 ∷ 3 ∷ 11 ∷ 6 ∷ 7 ∷ 8 ∷ []) (length s) n p)
     → (r : Evaluated) → ExpressionPromise form s r → Evaluates form s r
 unfolding evaluated_of
 expression_evaluates form s refusal r P = go (evaluated form s) refl P
@@ -177,7 +177,7 @@ expression_evaluates form s refusal r P = go (evaluated form s) refl P
     go (Ok (e, v)) d f = valued e v f d
     go (Err x) d f =
         let refused = d ∙ ap (λ (x : Refused). Err x) (subst Countless d (evaluated_countless form s)) in
-        unvalued x.number x.place f refused (refusal x d)
+        unvalued x.number x.place f refused (refusal x.number x.place refused)
 
 part_within : (s : List ℕ) (a e : ℕ) (good : Bool) → good_span s a e ≡ good → (part_of s a e).start + (part_of s a e).length ≤ length s
 unfolding part_of
