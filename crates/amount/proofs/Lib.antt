@@ -15,5 +15,6 @@ pub mod AmountForms
 pub mod AmountLaws
 pub mod RowCounts
 pub mod AmountFew
+pub mod AmountNumbers
 pub mod OneRows
 pub mod Examples

@@ -25,7 +25,7 @@ use Rattle.text.proofs.TokenEnds.{string_reach}
 use Rattle.amount.specs.declared.detail.Detail.{Detail}
 use Rattle.amount.specs.Details.{Rows, span, named, valued, quoted}
 pub use Rattle.amount.specs.Kinds.{flag_kind, cost_kind, posting_kind, refusal_kind}
-use Rattle.amount.proofs.ValueSizes.{Small, zero_small}
+use Rattle.amount.proofs.ValueSizes.{Small, NumberedRows, ReadNumbered, small_numbered, zero_small}
 
 -- ---- lists of rows
 
@@ -137,6 +137,19 @@ FitsFrom K s k a = Holds K s (λ rs. rs) k a
 -- none of a flag's kind
 abbrev pub Fits : List ℕ → ℕ → Rows → Type 0
 Fits s k a = FitsFrom unflagged s k a
+
+-- what refuses their values
+rising_numbered : (K : Kinds) (s : List ℕ) (k j : ℕ) (ds : List Detail) → Rising K s k j ds → NumberedRows ds
+rising_numbered K s k j [] r = tt
+rising_numbered K s k j (d ∷ ds) r = (small_numbered d.value r.1.small, rising_numbered K s d.start j ds r.2)
+
+pub placed_numbered : (K : Kinds) (s : List ℕ) (k j : ℕ) (ds : List Detail) → Placed K s k j ds → NumberedRows ds
+placed_numbered K s k j ds h = rising_numbered K s k j ds h.0
+
+pub fits_numbered : (K : Kinds) (s : List ℕ) (k : ℕ) (a : Rows) → FitsFrom K s k a → ReadNumbered a
+fits_numbered K s k (To j ds) h = record { holds = placed_numbered K s k j ds h.rows }
+fits_numbered K s k Miss h = record { holds = tt }
+fits_numbered K s k (Hard i p) h = record { holds = tt }
 
 module _ {A : Type 0} {K : Kinds} {s : List ℕ} {w : A → List Detail} where
   pub to_fits : (k j : ℕ) (x : A) → Placed K s k j (w x) → Holds K s w k (To j x)

@@ -15,6 +15,7 @@ use lib.IntN.{ℤ, ◌+ℤ◌, ◌-ℤ◌, ◌*ℤ◌}
 use lib.ListN.{length, get_or}
 use Rattle.decimal.specs.Exact.{limit, sized, whole_of, operands, decimal_of, exact, exactly, value_in, negated, sum, difference, product, quotient}
 use Rattle.decimal.specs.Rounding.{nearest}
+use Rattle.decimal.specs.steps.Judged.{judged_of}
 use Rattle.decimal.specs.declared.Form.{Form}
 use Rattle.decimal.specs.declared.Form.TheVariants.{Exact, Rounding}
 use Rattle.decimal.specs.declared.Decimal.{Decimal}
@@ -22,7 +23,8 @@ use Rattle.text.specs.Every.{OneOf}
 use Rattle.text.specs.Run.{blanks}
 use Rattle.text.specs.Answer.{Ans, To, Miss, Hard, ◌then◌, ◌else◌}
 use Rattle.text.specs.Refusals.{too_deep}
-use Rattle.amount.specs.Details.{zero_value}
+use Rattle.amount.specs.declared.detail.Detail.{Detail}
+use Rattle.amount.specs.Details.{Rows, zero_value}
 use Rattle.amount.specs.Literal.{literal_as, is_number, unsigned, literal}
 use Rattle.amount.specs.Expression.{groups, Arithmetic, negated_value, operated, combined, is_plus, is_times, goes_on, chain, atom, products, sums, negation, in_group, closed, group, within, expression_in, expression}
 
@@ -35,6 +37,15 @@ Fine (Err n) = OneOf value_numbers (number_of n)
 
 pub record Small (v : Value) : Type 0 where
   pub holds : Fine v
+
+-- no more of it: what refuses a value has one of these numbers
+abbrev pub Numbered : Value → Type 0
+Numbered (Ok d) = Unit {0}
+Numbered (Err fault) = OneOf value_numbers (number_of fault)
+
+pub small_numbered : (v : Value) → Small v → Numbered v
+small_numbered (Ok d) h = tt
+small_numbered (Err fault) h = h.holds
 
 pub zero_small : Small zero_value
 zero_small = record { holds = omega arith }
@@ -56,7 +67,7 @@ made_small : (m : Bool) (n : ℕ) → n ≤ limit → Small (Ok (decimal_of m n)
 unfolding decimal_of
 made_small m n h = record { holds = h }
 
-exact_small : (m : Bool) (n d : ℕ) → Small (exact m n d)
+pub exact_small : (m : Bool) (n d : ℕ) → Small (exact m n d)
 unfolding exact
 exact_small m n d = on (ltb (limit * d) n) refl
   where
@@ -64,36 +75,48 @@ exact_small m n d = on (ltb (limit * d) n) refl
     on true e = too_large
     on false e = cond_small (eqb (n % d) 0) _ (Err fine_fault) (made_small m (n / d) (div-le_of_le-mul d (rw (mul_comm d limit) (ltb-false (limit * d) n e)))) not_exact
 
-exactly_small : (z : ℤ) (d : ℕ) → Small (exactly z d)
+pub exactly_small : (z : ℤ) (d : ℕ) → Small (exactly z d)
 unfolding exactly
 exactly_small z d = exact_small _ _ d
 
+pub judged_small : (m : Bool) (q r : ℕ) → Small (judged_of m q r)
+unfolding judged_of
+judged_small m q r = on (ltb limit q) refl
+  where
+    on : (b : Bool) → ltb limit q ≡ b → Small (cond b (Err large_fault) (cond (eqb r 0) (Ok (decimal_of m q)) (cond (eqb q limit) (Err large_fault) (Err fine_fault))))
+    on true e = too_large
+    on false e = cond_small (eqb r 0) _ _ (made_small m q (ltb-false limit q e)) (cond_small (eqb q limit) _ _ too_large not_exact)
+
+pub opposite_small : (a : Decimal) → Small (negated a)
+unfolding negated
+opposite_small a = exactly_small _ 1
+
 negated_small : (v : Value) → Small v → Small (negated_value v)
-unfolding negated_value negated
-negated_small (Ok a) h = exactly_small _ 1
+unfolding negated_value
+negated_small (Ok a) h = opposite_small a
 negated_small (Err n) h = h
 
 operands_small : (a b : Decimal) (v : Value) → Small v → Small (operands a b v)
 operands_small a b v h = cond_small (ltb limit a.size || ltb limit b.size) (Err large_fault) v too_large h
 
-sum_small : (a b : Decimal) → Small (sum a b)
+pub sum_small : (a b : Decimal) → Small (sum a b)
 unfolding sum
 sum_small a b = operands_small a b (exactly (whole_of a +ℤ whole_of b) 1) (exactly_small (whole_of a +ℤ whole_of b) 1)
 
-difference_small : (a b : Decimal) → Small (difference a b)
+pub difference_small : (a b : Decimal) → Small (difference a b)
 unfolding difference
 difference_small a b = operands_small a b (exactly (whole_of a -ℤ whole_of b) 1) (exactly_small (whole_of a -ℤ whole_of b) 1)
 
-value_small : (form : Form) (z : ℤ) (d : ℕ) → Small (value_in form z d)
+pub value_small : (form : Form) (z : ℤ) (d : ℕ) → Small (value_in form z d)
 unfolding value_in
 value_small Exact z d = exactly_small z d
 value_small Rounding z d = exactly_small (nearest z d) 1
 
-product_small : (form : Form) (a b : Decimal) → Small (product form a b)
+pub product_small : (form : Form) (a b : Decimal) → Small (product form a b)
 unfolding product
 product_small form a b = operands_small a b _ (value_small form (whole_of a *ℤ whole_of b) 1000000)
 
-quotient_small : (form : Form) (a b : Decimal) → Small (quotient form a b)
+pub quotient_small : (form : Form) (a b : Decimal) → Small (quotient form a b)
 unfolding quotient
 quotient_small form a b =
     operands_small a b _ (cond_small (eqb b.size 0) (Err divisor_fault) _ by_zero (value_small form (whole_of a *ℤ sized b.minus 1000000) b.size))
@@ -112,6 +135,17 @@ unfolding combined
 combined_small form op (Err n) w p q = p
 combined_small form op (Ok a) (Err n) p q = q
 combined_small form op (Ok a) (Ok b) p q = operated_small form op a b
+
+pub negated_numbered : (v : Value) → Numbered v → Numbered (negated_value v)
+unfolding negated_value
+negated_numbered (Ok a) h = small_numbered (negated a) (opposite_small a)
+negated_numbered (Err fault) h = h
+
+pub combined_numbered : (form : Form) (op : ℕ) (v w : Value) → Numbered v → Numbered w → Numbered (combined form op v w)
+unfolding combined
+combined_numbered form op (Err fault) w h g = h
+combined_numbered form op (Ok a) (Err fault) h g = g
+combined_numbered form op (Ok a) (Ok b) h g = small_numbered (operated form op a b) (operated_small form op a b)
 
 -- ---- readers
 
@@ -165,7 +199,7 @@ as_small : (m : Bool) (s : List ℕ) (e : ℕ) → Smalls (literal_as m s e)
 unfolding literal_as
 as_small m s e = if_small (is_number s) _ Miss (to_small e _ (exact_small m _ _)) no_small
 
-literal_small : (s : List ℕ) (at : ℕ) → Smalls (literal s at)
+pub literal_small : (s : List ℕ) (at : ℕ) → Smalls (literal s at)
 unfolding literal unsigned
 literal_small s at = if_small (eqb (get_or s at 0) 45) _ _ (as_small true _ _) (as_small false _ _)
 
@@ -199,3 +233,17 @@ expression_small s at = expression_in_small Rounding s at
 
 pub read_small : (s : List ℕ) (at e : ℕ) (v : Value) → expression s at ≡ To e v → Small v
 read_small s at e v q = (subst Smalls q (expression_small s at)).holds
+
+-- ---- rows, each value of which is numbered
+
+abbrev pub NumberedRows : List Detail → Type 0
+NumberedRows [] = Unit {0}
+NumberedRows (d ∷ ds) = Numbered d.value × NumberedRows ds
+
+abbrev pub WithNumbers : Rows → Type 0
+WithNumbers (To e ds) = NumberedRows ds
+WithNumbers Miss = Unit {0}
+WithNumbers (Hard k p) = Unit {0}
+
+pub record ReadNumbered (a : Rows) : Type 0 where
+  pub holds : WithNumbers a

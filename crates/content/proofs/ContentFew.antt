@@ -16,7 +16,8 @@ use Rattle.amount.specs.Details.{Rows, span, quoted}
 use Rattle.text.specs.Refusals.{missing}
 use Rattle.amount.specs.Expression.{expression}
 use Rattle.amount.proofs.ExpressionEnds.{expression_reach}
-use Rattle.amount.proofs.ValueSizes.{read_small}
+use Rattle.amount.proofs.AmountNumbers.{one_numbered, and_numbered, bare_numbered}
+use Rattle.amount.proofs.ValueSizes.{ReadNumbered, read_small}
 use Rattle.amount.proofs.RowCounts.{unflagged, Of, span_filled, valued_filled, placed_wide, Fits, to_fits, fits_from, must_fits, row_fits, then_rows, then_read, and_fits, maybe_fits, many_fits, must_bare, bare_and, account_bare, currency_bare, byte_bare, comma_bare, quoted_fits, hard_gap_bare}
 use Rattle.posting.proofs.PostingEnds.{optional_reach, spaced_reach}
 use Rattle.posting.proofs.PostingFew.{spaced_fits}
@@ -36,6 +37,11 @@ module _ (s : List ℕ) where
   hard_account_fits at h =
       bare_and N (at + 1) at (must missing at (account s at)) _ (must_reach N (at + 1) required at _ h (account_reach s at)) (must_bare missing at _ (account_bare s at)) (λ e p q.
       row_fits at e _ span_filled (omega arith))
+
+  -- at any place, what refuses a value of it
+  pub hard_account_numbered : (at : ℕ) → ReadNumbered (hard_account s at)
+  unfolding hard_account
+  hard_account_numbered at = and_numbered _ _ (bare_numbered _ (must_bare missing at _ (account_bare s at))) (λ e. one_numbered e _ tt)
 
   -- a string whose row is a span
   pub text_fits : (k at : ℕ) → Of unflagged k → Fits s at (quoted (span k) s at)

@@ -130,7 +130,7 @@ content_reach k s at h =
     by_kind (Reach (length s) (at + 1)) k s at (price_of_reach s at h) (balance_of_reach s at h) (open_of_reach s at h) (hard_account_reach s at h)
     (pad_of_reach s at h) (hard_currency_reach s at h) (event_of_reach s at h)
 
-content_fits : (k : ℕ) (s : List ℕ) (at : ℕ) → at ≤ length s → Fits s at (content_of k s at)
+pub content_fits : (k : ℕ) (s : List ℕ) (at : ℕ) → at ≤ length s → Fits s at (content_of k s at)
 content_fits k s at h =
     by_kind (Fits s at) k s at (price_of_fits s at h) (balance_of_fits s at h) (open_of_fits s at h) (hard_account_fits s at h) (pad_of_fits s at h)
     (hard_currency_fits s at h) (event_of_fits s at h)

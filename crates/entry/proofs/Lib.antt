@@ -12,3 +12,4 @@ pub mod FormLaws
 pub mod UndatedLaws
 pub mod SettleLaws
 pub mod FirstLaws
+pub mod DirectiveNumbers

@@ -1,5 +1,6 @@
 pub mod PostingEnds
 pub mod PostingFew
+pub mod PostingNumbers
 pub mod Agree
 pub mod StringAgree
 pub mod PostingAlike

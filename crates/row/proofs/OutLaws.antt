@@ -1,5 +1,14 @@
 -- Laws of what the row writer holds, and of details that were written.
-use Rattle.std.specs.Prelude.{None, Option, Some}
+use Rattle.std.specs.Prelude.{None, Option, Some, Ok, Err}
+use Rattle.text.specs.Every.{OneOf}
+use Rattle.decimal.specs.declared.Fault.{Fault}
+use Rattle.decimal.specs.Faults.{Value, number_of}
+use Rattle.amount.proofs.ValueSizes.{value_numbers, Numbered, NumberedRows, ReadNumbered}
+use Rattle.amount.specs.Details.{Rows}
+use Rattle.text.specs.Answer.{To, Miss, Hard}
+use Rattle.text.specs.steps.Told.{Reading}
+use Rattle.text.proofs.TestLaws.{ok_pair}
+use Rattle.row.specs.Details.{value_place}
 use Prim.Native.Nat.{ℕ, ◌+◌}
 use native.Mathlib.Nat.{add-zero}
 use native.Mathlib.Omega.{arith}
@@ -8,7 +17,7 @@ use mathlib.Core.List.{List, [], ◌∷◌, ◌++◌, map, map-append, append_as
 use lib.ListN.{length, length-map, drop}
 use Rattle.amount.specs.declared.detail.Detail.{Detail}
 use Rattle.row.specs.steps.Pouring.{pour_at}
-use Rattle.row.specs.steps.Writing.{laid, noted, outs, some_row, Poured, Room}
+use Rattle.row.specs.steps.Writing.{laid, first_refused, noted, outs, some_row, Poured, Did, Room}
 use Rattle.row.specs.declared.table.Row.{Row}
 use Rattle.row.specs.declared.writer.Out.{Out}
 use Rattle.row.proofs.PourLaws.{pour_at_none, pour_at_append, pour_at_over}
@@ -122,3 +131,40 @@ module _ (base : ℕ) (o : Out) (t : List ℕ) (x : Detail) (p : Out) (v : List 
       rw h (wrote_then base o t (x ∷ []) (n ∷ []) p m v u (wrote_one base o t x p v e f) (wrote_one base p v n m u q r))
 
 pub ruleset with_laws = (noted_room, with_none, with_one)
+
+-- ---- the number of the first refused value
+
+abbrev pub FirstNumbered : Option (Fault × ℕ) → Type 0
+FirstNumbered None = Unit {0}
+FirstNumbered (Some (fault, p)) = OneOf value_numbers (number_of fault)
+
+-- no refused value, or one that 6, 7 or 8 refuses
+pub record Known (o : Out) : Type 0 where
+  pub holds : FirstNumbered o.refused
+
+pub nothing_known : (n : ℕ) → Known (record { rows = n; refused = None })
+nothing_known n = record { holds = tt }
+
+value_known : (v : Value) (p : ℕ) → Numbered v → FirstNumbered (elim v [ Ok x ↦ None | Err fault ↦ Some (fault, p) ])
+value_known (Ok x) p h = tt
+value_known (Err fault) p h = h
+
+pub noted_known : (o : Out) (d : Detail) → Known o → Numbered d.value → Known (noted o d)
+unfolding noted first_refused
+noted_known o d h g = go o.refused h.holds
+  where
+    go : (r : Option (Fault × ℕ)) → FirstNumbered r → Known (record { rows = o.rows + 1; refused = first_refused r d })
+    go (Some first) h = record { holds = h }
+    go None h = record { holds = value_known d.value (value_place d) g }
+
+pub outs_known : (ds : List Detail) (o : Out) → Known o → NumberedRows ds → Known (outs o ds)
+unfolding outs
+outs_known [] o h g = h
+outs_known (d ∷ ds) o h g = outs_known ds (noted o d) (noted_known o d h g.0) g.1
+
+-- what a reader that writes holds, where it read
+pub did_known : (base : ℕ) (a : Rows) (o : Out) (t u : List ℕ) (r : Reading Out) (e : ℕ) (m : Out) → Did base a o t u r → r ≡ Ok (e, m) → ReadNumbered a
+    → Known o → Known m
+did_known base (To j ds) o t u r e m w q h k = let z = ok_pair (sym w.0 ∙ q) in subst Known z.1 (outs_known ds o k h.holds)
+did_known base Miss o t u r e m w q h k = cc
+did_known base (Hard i p) o t u r e m w q h k = cc
