@@ -3,11 +3,12 @@ use Rattle.std.specs.Prelude.{Ok}
 use Rattle.decimal.specs.Faults.{Value}
 use Prim.Native.Nat.{ℕ}
 use mathlib.Core.Path.{◌≡◌, refl, sym, ◌∙◌, subst}
-use mathlib.Core.List.{List, [], ◌∷◌, ◌++◌}
+use mathlib.Core.List.{List, [], ◌∷◌}
 use Rattle.text.specs.Answer.{Ans, To, Miss, Hard, ◌then◌, more, ◌and◌, maybe, must}
 use Rattle.text.specs.Leaves.{gap, hard_gap, currency}
 use Rattle.text.specs.Refusals.{missing}
 use Rattle.text.specs.steps.Told.{Reading}
+use Rattle.text.proofs.EveryLaws.{every_append}
 use Rattle.text.proofs.Inversions.{must_inv}
 use Rattle.text.proofs.TestLaws.{ok_pair}
 use Rattle.amount.specs.declared.detail.Detail.{Detail}
@@ -15,19 +16,15 @@ use Rattle.amount.specs.Details.{Rows}
 use Rattle.amount.specs.Expression.{expression}
 use Rattle.amount.specs.Amounts.{amount, hard_currency, hard_amount, price_of}
 use Rattle.amount.specs.steps.Answers.{one_of, pair_of}
-use Rattle.amount.proofs.ValueSizes.{Numbered, NumberedRows, ReadNumbered, small_numbered, read_small}
+use Rattle.amount.proofs.ValueSizes.{Numbered, NumberedRow, NumberedRows, ReadNumbered, small_numbered, read_small}
 use Rattle.amount.proofs.RowCounts.{Bare, must_bare, gap_bare, hard_gap_bare, currency_bare}
 
 pub one_numbered : (e : ℕ) (d : Detail) → Numbered d.value → ReadNumbered (To e (d ∷ []))
 one_numbered e d h = record { holds = (h, tt) }
 
-rows_numbered : (xs ys : List Detail) → NumberedRows xs → NumberedRows ys → NumberedRows (xs ++ ys)
-rows_numbered [] ys h g = g
-rows_numbered (d ∷ xs) ys h g = (h.0, rows_numbered xs ys h.1 g)
-
 more_numbered : (xs : List Detail) (a : Rows) → NumberedRows xs → ReadNumbered a → ReadNumbered (more xs a)
 unfolding more
-more_numbered xs (To e ys) h g = record { holds = rows_numbered xs ys h g.holds }
+more_numbered xs (To e ys) h g = record { holds = every_append NumberedRow xs ys h g.holds }
 more_numbered xs Miss h g = record { holds = tt }
 more_numbered xs (Hard k p) h g = record { holds = tt }
 

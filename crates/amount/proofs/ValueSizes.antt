@@ -19,7 +19,7 @@ use Rattle.decimal.specs.steps.Judged.{judged_of}
 use Rattle.decimal.specs.declared.Form.{Form}
 use Rattle.decimal.specs.declared.Form.TheVariants.{Exact, Rounding}
 use Rattle.decimal.specs.declared.Decimal.{Decimal}
-use Rattle.text.specs.Every.{OneOf}
+use Rattle.text.specs.Every.{Every, OneOf}
 use Rattle.text.specs.Run.{blanks}
 use Rattle.text.specs.Answer.{Ans, To, Miss, Hard, ◌then◌, ◌else◌}
 use Rattle.text.specs.Refusals.{too_deep}
@@ -236,9 +236,11 @@ read_small s at e v q = (subst Smalls q (expression_small s at)).holds
 
 -- ---- rows, each value of which is numbered
 
+abbrev pub NumberedRow : Detail → Type 0
+NumberedRow d = Numbered d.value
+
 abbrev pub NumberedRows : List Detail → Type 0
-NumberedRows [] = Unit {0}
-NumberedRows (d ∷ ds) = Numbered d.value × NumberedRows ds
+NumberedRows ds = Every NumberedRow ds
 
 abbrev pub WithNumbers : Rows → Type 0
 WithNumbers (To e ds) = NumberedRows ds

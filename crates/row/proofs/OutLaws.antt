@@ -1,9 +1,8 @@
 -- Laws of what the row writer holds, and of details that were written.
 use Rattle.std.specs.Prelude.{None, Option, Some, Ok, Err}
-use Rattle.text.specs.Every.{OneOf}
 use Rattle.decimal.specs.declared.Fault.{Fault}
-use Rattle.decimal.specs.Faults.{Value, number_of}
-use Rattle.amount.proofs.ValueSizes.{value_numbers, Numbered, NumberedRows, ReadNumbered}
+use Rattle.decimal.specs.Faults.{Value}
+use Rattle.amount.proofs.ValueSizes.{Numbered, NumberedRows, ReadNumbered}
 use Rattle.amount.specs.Details.{Rows}
 use Rattle.text.specs.Answer.{To, Miss, Hard}
 use Rattle.text.specs.steps.Told.{Reading}
@@ -136,7 +135,7 @@ pub ruleset with_laws = (noted_room, with_none, with_one)
 
 abbrev pub FirstNumbered : Option (Fault × ℕ) → Type 0
 FirstNumbered None = Unit {0}
-FirstNumbered (Some (fault, p)) = OneOf value_numbers (number_of fault)
+FirstNumbered (Some (fault, p)) = Numbered (Err fault)
 
 -- no refused value, or one that 6, 7 or 8 refuses
 pub record Known (o : Out) : Type 0 where
